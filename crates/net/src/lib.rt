@@ -1,0 +1,43 @@
+// Ports, descriptors and interface ids are types of their own (000, 2.1). An address is a u32, the first of its four numbers highest.
+ghost use mathlib.Core.Path.{_≡_};
+ghost use Rattle.net.specs.Address.{loopback, martian, stray, agree};
+
+pub struct Port(pub u16);
+
+pub struct Descriptor(pub u8);
+
+pub struct InterfaceId(pub u8);
+
+// Where a datagram comes from and where it goes.
+pub struct Flow {
+    pub src: u32,
+    pub dst: u32,
+    pub sport: Port,
+    pub dport: Port,
+}
+
+pub fn is_loopback(a: u32) -> bool
+    ensures { λ r. ⌜ r ≡ loopback a ⌝ }
+{
+    a / 16777216 == 127
+}
+
+pub fn is_martian(a: u32) -> bool
+    ensures { λ r. ⌜ r ≡ martian a ⌝ }
+{
+    (a / 16777216 == 0) | (224 <= a / 16777216)
+}
+
+// No source of a datagram from outside: martian or loopback.
+pub fn is_stray(a: u32) -> bool
+    ensures { λ r. ⌜ r ≡ stray a ⌝ }
+{
+    is_martian(a) | is_loopback(a)
+}
+
+// The two addresses are equal under the mask.
+pub fn is_agreed(a: u32, b: u32, mask: u32) -> bool
+    ensures { λ r. ⌜ r ≡ agree a b mask ⌝ }
+{
+    (a & mask) == (b & mask)
+}

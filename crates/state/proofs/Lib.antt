@@ -1,0 +1,4 @@
+pub mod Places
+pub mod Opened
+pub mod Own
+pub mod Fits

@@ -1,0 +1,5 @@
+pub mod Places
+pub mod Interfaces
+pub mod Sockets
+pub mod Threads
+pub mod Plain
