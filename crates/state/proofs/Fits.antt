@@ -73,7 +73,7 @@ port-live {s = s} f n = ⊎-elim (λ x. x) (λ x. absurd (n (ap (λ (y : Socket)
 
 -- ---- two sockets
 
-overlap-is : (a b : ℕ) → Decides (overlap a b) (Overlap a b)
+pub overlap-is : (a b : ℕ) → Decides (overlap a b) (Overlap a b)
 overlap-is a b =
     d-to (d-or (d-or (d-eq a b) (d-eq a 0)) (d-eq b 0))
     (λ p. ⊎-elim (λ q. ⊎-elim (λ e. inl e) (λ e. inr (inl e)) q) (λ e. inr (inr e)) p)

@@ -1,0 +1,4 @@
+pub mod Winner
+pub mod Scores
+pub mod Free
+pub mod Paths

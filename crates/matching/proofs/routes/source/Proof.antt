@@ -1,0 +1,19 @@
+-- `matching::routes::source` meets its contract.
+-- Assumes nothing.
+use Rattle.matching.proofs.Paths.{source-loopback, source-none, source-via}
+use borrow.Author.Needs.{needs}
+use Rattle.matching.proofs.routes.source.Statement.{statement}
+use Rattle.matching.proofs.routes.source.Tie as tie
+
+-- is-loopback-requires, returns, returns-2, via-requires, mul-x, array-copy-out-x, returns-3
+pub source-spec : {M : Type 1} → statement M
+source-spec =
+    tie.close
+    (tie.spec
+    (λ c κs. search needs)
+    (λ c. source-loopback _ _ _ (c .before .is-loopback .ensures) (c .if1 .taken))
+    (λ c. source-none _ _ _ (c .before .before .is-loopback .ensures) (c .before .if1 .left) (c .if2 .taken))
+    (λ c κs. search needs)
+    (λ c. search needs)
+    (λ c. search needs)
+    (λ c. source-via _ _ _ _ (c .before .before .before .before .is-loopback .ensures) (c .before .before .before .if1 .left) (c .before .before .if2 .left) (c .before .via .ensures .0)))

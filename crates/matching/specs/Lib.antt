@@ -1,0 +1,4 @@
+pub mod Scores
+pub mod Ports
+pub mod Routes
+pub mod Plain

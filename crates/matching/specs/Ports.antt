@@ -1,0 +1,28 @@
+-- Which ports are taken: document 01, bind and autobind (000, 2.3.3: unused and autobind)
+use Prim.Native.Nat.{ℕ}
+use mathlib.Core.List.{List}
+use mathlib.Core.Bool.{Bool, _&&_, _||_, not}
+use lib.Dec.{eqb}
+use Rattle.laws.specs.Below.{allBelow, lowest}
+use Rattle.state.specs.declared.Socket.{Socket}
+use Rattle.state.specs.Places.{socketIn}
+use Rattle.state.specs.Sockets.{overlap}
+
+-- s is open, has that port and an overlapping address, and not both have reuse
+abbrev pub takes : Socket → Bool → ℕ → ℕ → Bool
+takes s reuse a p = s .live && eqb (s .lport .0) p && overlap (s .laddr) a && not (s .reuse && reuse)
+
+abbrev pub leaves : List Socket → ℕ → ℕ → Bool → ℕ → ℕ → Bool
+leaves ks j k reuse a p = eqb j k || not (takes (socketIn ks j) reuse a p)
+
+-- another open socket keeps socket k off the pair
+unfoldable pub inUse : List Socket → ℕ → ℕ → ℕ → Bool
+inUse ks k a p = not (allBelow (λ j. leaves ks j k (socketIn ks k .reuse) a p) 16)
+
+-- no socket has p as its local port
+unfoldable pub portFree : List Socket → ℕ → Bool
+portFree ks p = allBelow (λ j. not (eqb (socketIn ks j .lport .0) p)) 16
+
+-- autobind: the lowest port of 1024 to 4999 that no socket has
+unfoldable pub autoPort : List Socket → ℕ
+autoPort ks = lowest (portFree ks) 3976 1024

@@ -1,0 +1,60 @@
+// Which ports are taken: "in use" for bind, and autobind (000, 2.3.3).
+use net::Port;
+use state::Socket;
+ghost use mathlib.Core.Path.{_≡_};
+ghost use Prim.Native.Nat.{_<_};
+ghost use Rattle.matching.specs.Ports.{takes, leaves, inUse, portFree, autoPort};
+
+// The socket s keeps a socket with this reuse off the pair of address and port.
+fn is_taking(s: Socket, reuse: bool, a: u32, p: Port) -> bool
+    ensures { λ r. ⌜ r ≡ takes s reuse a (p .0) ⌝ }
+{
+    s.live & (s.lport.0 == p.0) & state::sockets::is_overlap(s.laddr, a) & !(s.reuse & reuse)
+}
+
+// Socket j leaves the pair to socket k, which has this reuse.
+fn is_leaving(sockets: [Socket; 16], j: usize, k: usize, reuse: bool, a: u32, p: Port) -> bool
+    requires { ⌜ j < 16 ⌝ }
+    ensures { λ r. ⌜ r ≡ leaves sockets j k reuse a (p .0) ⌝ }
+{
+    (j == k) | !is_taking(sockets[j], reuse, a, p)
+}
+
+// Another open socket has that port, overlapping addresses, and not both have reuse.
+pub fn is_in_use(sockets: [Socket; 16], k: usize, a: u32, p: Port) -> bool
+    requires { ⌜ k < 16 ⌝ }
+    ensures { λ r. ⌜ r ≡ inUse sockets k a (p .0) ⌝ }
+{
+    let reuse = sockets[k].reuse;
+    let mut ok = true;
+    for j in 0..16 {
+        ok = ok & is_leaving(sockets, j, k, reuse, a, p);
+    }
+    !ok
+}
+
+// No socket has p as its local port.
+pub fn is_port_free(sockets: [Socket; 16], p: Port) -> bool
+    ensures { λ r. ⌜ r ≡ portFree sockets (p .0) ⌝ }
+{
+    let mut ok = true;
+    for j in 0..16 {
+        let s = sockets[j];
+        ok = ok & (s.lport.0 != p.0);
+    }
+    ok
+}
+
+// The lowest port of 1024 to 4999 that no socket has.
+pub fn autobind(sockets: [Socket; 16]) -> Port
+    ensures { λ r. ⌜ r .0 ≡ autoPort sockets ⌝ }
+{
+    let mut p: u16 = 1024;
+    while p < 5000 {
+        if is_port_free(sockets, Port(p)) {
+            return Port(p);
+        }
+        p += 1;
+    }
+    Port(p)
+}

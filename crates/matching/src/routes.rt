@@ -1,0 +1,42 @@
+// The source that a destination is reached from (000, 2.3.7: outroute).
+use state::Interface;
+ghost use mathlib.Core.Path.{_≡_};
+ghost use Prim.Native.Nat.{_≤_};
+ghost use Rattle.matching.specs.Routes.{reaches, routeVia, routeSource};
+
+fn is_reaching(x: Interface, dst: u32) -> bool
+    ensures { λ r. ⌜ r ≡ reaches x dst ⌝ }
+{
+    net::is_agreed(x.first, dst, x.mask)
+}
+
+// The first of n interfaces whose primary agrees with the destination under its mask; else the first.
+fn via(interfaces: [Interface; 4], n: usize, dst: u32) -> usize
+    requires { ⌜ (1 ≤ n) × (n ≤ 4) ⌝ }
+    ensures { λ r. ⌜ (r ≡ routeVia interfaces n dst) × (r ≤ 3) ⌝ }
+{
+    let mut i = 0;
+    while i < n {
+        if is_reaching(interfaces[i], dst) {
+            return i;
+        }
+        i += 1;
+    }
+    0
+}
+
+// 127.0.0.1 for loopback; else that interface's primary; 0 where there is no interface.
+pub fn source(interfaces: [Interface; 4], n: usize, dst: u32) -> u32
+    requires { ⌜ n ≤ 4 ⌝ }
+    ensures { λ r. ⌜ r ≡ routeSource interfaces n dst ⌝ }
+{
+    if net::is_loopback(dst) {
+        return 2130706433;
+    }
+    if n == 0 {
+        return 0;
+    }
+    let i = via(interfaces, n, dst);
+    let x = interfaces[i];
+    x.first
+}
