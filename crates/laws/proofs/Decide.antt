@@ -56,6 +56,14 @@ f-absurd {a} {P} d = record { says = λ e p. not-both (d .back p) e; back = λ n
 pub d-and : {a b : Bool} {P Q : Type 0} → Decides a P → Decides b Q → Decides (a && b) (P × Q)
 d-and {a} {b} c d = record { says = λ e. (c .says (and-left a b e), d .says (and-right a b e)); back = λ p. and-both a b (c .back (p .0)) (d .back (p .1)) }
 
+-- where a holds, b decides Q
+pub d-then : {a b : Bool} {P Q : Type 0} → Decides a P → (P → Decides b Q) → Decides (a && b) (P × Q)
+d-then {a} {b} c d =
+    record {
+      says = λ e. let p = c .says (and-left a b e) in (p, d p .says (and-right a b e));
+      back = λ p. and-both a b (c .back (p .0)) (d (p .0) .back (p .1));
+    }
+
 pub d-or : {a b : Bool} {P Q : Type 0} → Decides a P → Decides b Q → Decides (a || b) (P ⊎ Q)
 d-or {a} {b} c d =
     record {

@@ -1,13 +1,13 @@
 -- Laws of `part`, `splice`, `copies` and `popped`, of lists of anything: lengths, an element of each, a part of each, two splices.
 -- Assumes nothing.
 use mathlib.Core.Path.{_≡_, sym, ap, _∙_}
-use mathlib.Core.List.{List, _++_, append-assoc, append-nil}
+use mathlib.Core.List.{List, [], _∷_, _++_, append-assoc, append-nil}
 use mathlib.Core.Logic.{_⊎_, inl, inr, ⊎-elim}
-use Prim.Native.Nat.{ℕ, _+_, _-_, _*_, _≤_, _<_}
+use Prim.Native.Nat.{ℕ, suc, _+_, _-_, _≤_, _<_}
 use native.Mathlib.Nat.{add-assoc}
 use native.Mathlib.Omega.{arith}
-use lib.ListN.{length, getD, take, drop, length-append, length-take, length-drop, length-replicate, getD-replicate, List·getD-append, drop-of-length-le}
-use lib.Seq.{getD-take, getD-drop, getD-append-add, take-at, drop-at, drop-drop, take-all, ext-getD}
+use lib.ListN.{length, getD, take, drop, set, length-append, length-take, length-drop, length-replicate, getD-replicate, List·getD-append, drop-of-length-le}
+use lib.Seq.{getD-take, getD-drop, getD-append-add, take-at, drop-at, drop-drop, take-all, drop-cons, sets-eq, ext-getD}
 use Rattle.laws.specs.Places.{part, splice, copies, popped}
 use Rattle.laws.proofs.Numbers.{side}
 
@@ -222,3 +222,22 @@ module _ {A : Type 0} (d z : A) (s : List A) (at w rest : ℕ) (fits : at + w + 
       let same : part (popped z s at w rest) (at' + w') rest' ≡ part s (at' + w') rest' = popped-part-else z s at w rest fits d (at' + w') rest' (omega arith) (⊎-elim (λ x. inl (omega arith)) (λ x. inr (omega arith)) apart) in
       popped-splice at' (part s (at' + w') rest' ++ copies z' w') (omega (arith, size')) (⊎-elim (λ x. inl (omega (arith, size'))) (λ x. inr x) apart)
       ∙ ap (λ (m : List A). splice (popped z s at w rest) at' (m ++ copies z' w')) (sym same)
+
+-- ---- four stores in a row
+
+pub stored-four : {A : Type 0} (s : List A) (at p q r : ℕ) (a b c d : A) → p ≡ at + 1 → q ≡ at + 2 → r ≡ at + 3 → at + 4 ≤ length s
+    → set (set (set (set s at a) p b) q c) r d ≡ splice s at (a ∷ b ∷ c ∷ d ∷ [])
+unfolding splice
+stored-four s at p q r a b c d ep eq er h =
+    let p' : p ≡ suc at = omega arith in
+    let q' : q ≡ suc (suc at) = omega arith in
+    let r' : r ≡ suc (suc (suc at)) = omega arith in
+    rw (p', q', r') (sets-eq (a ∷ b ∷ c ∷ d ∷ []) s at h)
+
+pub part-three : {A : Type 0} (z : A) (s : List A) (at p q : ℕ) → p ≡ at + 1 → q ≡ at + 2 → at + 3 ≤ length s
+    → part s at 3 ≡ getD s at z ∷ getD s p z ∷ getD s q z ∷ []
+unfolding part
+part-three z s at p q ep eq h =
+    let p' : p ≡ suc at = omega arith in
+    let q' : q ≡ suc (suc at) = omega arith in
+    rw (p', q', drop-cons s at z (omega arith), drop-cons s (suc at) z (omega arith), drop-cons s (suc (suc at)) z (omega arith))

@@ -1,6 +1,6 @@
 -- `store::clear` meets its contract: the loop writes zeros, one a turn.
 -- Assumes nothing.
-use mathlib.Core.Path.{sym}
+use mathlib.Core.Path.{refl, sym}
 use Prim.Native.Nat.{_-_}
 use borrow.Author.Needs.{needs}
 use Rattle.store.specs.Store.{zeros}
@@ -27,6 +27,6 @@ clear-spec =
     (λ c. search needs)
     (λ c. search needs)
     (λ c. search needs)
-    (λ c. fill-turn (c .before .loop .inv) _ (search needs) (sym (getD-copies _ _ _ _ (search needs))))
+    (λ c. fill-turn (c .before .loop .inv) _ _ refl (search needs) (sym (getD-copies _ _ _ _ (search needs))))
     (λ c. search needs)
     (λ c. fill-done (c .before .loop .inv) (search needs)))

@@ -27,6 +27,6 @@ put-spec =
     (λ c. search needs)
     (λ c. search needs)
     (λ c. search needs)
-    (λ c. fill-turn (c .before .before .loop .inv) _ (search needs) refl)
+    (λ c. fill-turn (c .before .before .loop .inv) _ _ refl (search needs) refl)
     (λ c. search needs)
     (λ c. fill-done (c .before .loop .inv) (search needs)))

@@ -1,6 +1,6 @@
 -- `store::shift` meets its contract: the loop writes the part at `from`, a byte a turn, and reads only what it has not come to.
 -- Assumes nothing.
-use mathlib.Core.Path.{sym, _∙_}
+use mathlib.Core.Path.{refl, sym, _∙_}
 use Prim.Native.Nat.{_-_}
 use borrow.Author.Needs.{needs}
 use Rattle.laws.specs.Places.{part}
@@ -29,6 +29,6 @@ shift-spec =
     (λ c. search needs)
     (λ c. search needs)
     (λ c. search needs)
-    (λ c. let f = c .before .before .loop .inv in fill-turn f _ (search needs) (fill-ahead f _ (search needs) ∙ sym (getD-part _ _ _ _ _ (search needs))))
+    (λ c. let f = c .before .before .loop .inv in fill-turn f _ _ refl (search needs) (fill-ahead f _ (search needs) ∙ sym (getD-part _ _ _ _ _ (search needs))))
     (λ c. search needs)
     (λ c. fill-done (c .before .loop .inv) (search needs)))

@@ -1,0 +1,216 @@
+// The sockets' queues: heads and counts in the record, payloads in the lent store. Nothing here is given a socket's ports.
+use net::Flow;
+use net::InterfaceId;
+use net::Port;
+use state::Queued;
+use state::Socket;
+ghost use mathlib.Core.Path.{_≡_};
+ghost use mathlib.Core.List.{[]};
+ghost use Prim.Native.Nat.{_+_, _≤_, _<_};
+ghost use lib.ListN.{length};
+ghost use Rattle.laws.specs.Places.{part};
+ghost use Rattle.state.specs.Places.{noHead};
+ghost use Rattle.queues.specs.Moves.{countAt, firstHead, headOf, noQueues, withHead, withoutFirst, left, pushed, taken, cleared, emptied, Room, Some};
+ghost use Rattle.queues.specs.Fits.{emptyHead, headFits, placesFit, queueOk, queuesOk};
+
+// Socket k's queue is the heads from 4 * k, oldest first, and the four slots of 512 bytes from byte 2,048 * k.
+pub struct Queues {
+    pub heads: [Queued; 64],
+    pub counts: [u8; 16],
+}
+
+fn no_head() -> Queued
+    ensures { λ r. ⌜ r ≡ noHead ⌝ }
+{
+    Queued {
+        flow: Flow {
+            src: 0,
+            dst: 0,
+            sport: Port(0),
+            dport: Port(0),
+        },
+        len: 0,
+        iface: InterfaceId(0),
+    }
+}
+
+// ---- what well-formedness asks of them
+
+fn is_empty_head(h: Queued) -> bool
+    ensures { λ r. ⌜ r ≡ emptyHead h ⌝ }
+{
+    (h.flow.src == 0)
+        & (h.flow.dst == 0)
+        & (h.flow.sport.0 == 0)
+        & (h.flow.dport.0 == 0)
+        & (h.len == 0)
+        & (h.iface.0 == 0)
+}
+
+// The place i of a queue that holds n.
+fn head_fits(h: Queued, i: usize, n: usize) -> bool
+    ensures { λ r. ⌜ r ≡ headFits n i h ⌝ }
+{
+    if i < n {
+        h.len <= 512
+    } else {
+        is_empty_head(h)
+    }
+}
+
+// The four places of socket k's queue, which holds n.
+fn places_fit(heads: [Queued; 64], k: usize, n: usize) -> bool
+    requires { ⌜ k < 16 ⌝ }
+    ensures { λ r. ⌜ r ≡ placesFit heads k n ⌝ }
+{
+    let mut ok = true;
+    for i in 0..4 {
+        ok = ok & head_fits(heads[4 * k + i], i, n);
+    }
+    ok
+}
+
+impl Queues {
+    fn is_queue(self, k: usize, live: bool) -> bool
+        requires { ⌜ k < 16 ⌝ }
+        ensures { λ r. ⌜ r ≡ queueOk live self k ⌝ }
+    {
+        let heads = self.heads;
+        let n = self.counts[k] as usize;
+        (n <= 4) & (live | (n == 0)) & places_fit(heads, k, n)
+    }
+
+    pub fn are_queues(self, sockets: [Socket; 16]) -> bool
+        ensures { λ r. ⌜ r ≡ queuesOk sockets self ⌝ }
+    {
+        let mut ok = true;
+        for k in 0..16 {
+            ok = ok & self.is_queue(k, sockets[k].live);
+        }
+        ok
+    }
+}
+
+// ---- the moves
+
+impl Queues {
+    pub fn empty() -> Queues
+        ensures { λ r. ⌜ r ≡ noQueues ⌝ }
+    {
+        Queues {
+            heads: [no_head(); 64],
+            counts: [0; 16],
+        }
+    }
+
+    // The head h behind those of socket k.
+    fn with_head(self, k: usize, h: Queued) -> Queues
+        requires { ⌜ (k < 16) × (countAt self k < 4) ⌝ }
+        ensures { λ r. ⌜ r ≡ withHead self k h ⌝ }
+    {
+        let mut q = self;
+        let n = q.counts[k];
+        q.heads[4 * k + n as usize] = h;
+        q.counts[k] = n + 1;
+        q
+    }
+
+    // A datagram behind those of socket k (000, delivery.in.udp.1).
+    pub fn push(
+        self,
+        store: &mut [u8],
+        k: usize,
+        flow: Flow,
+        iface: InterfaceId,
+        payload: &[u8],
+    ) -> Queues
+        requires { ⌜ Room self (now store) k ⌝ }
+        requires { ⌜ length (now payload) ≤ 512 ⌝ }
+        ensures { λ r. ⌜ left r (now (store .exit)) [] ≡ pushed self (now (store .entry)) k (headOf flow iface (length (now (payload .entry)))) (now (payload .entry)) ⌝ }
+    {
+        let n = self.counts[k];
+        store::slot_write(store, 2048 * k + 512 * n as usize, payload);
+        let h = Queued {
+            flow,
+            len: payload.len() as u16,
+            iface,
+        };
+        self.with_head(k, h)
+    }
+
+    // The same, with the len bytes of the slot at byte from, behind every queue (000, delivery.loopback.udp.1).
+    pub fn push_from(
+        self,
+        store: &mut [u8],
+        k: usize,
+        flow: Flow,
+        iface: InterfaceId,
+        from: usize,
+        len: u16,
+    ) -> Queues
+        requires { ⌜ Room self (now store) k ⌝ }
+        requires { ⌜ (len ≤ 512) × (32768 ≤ from) × (from + 512 ≤ 40960) ⌝ }
+        ensures { λ r. ⌜ left r (now (store .exit)) [] ≡ pushed self (now (store .entry)) k (headOf flow iface len) (part (now (store .entry)) from len) ⌝ }
+    {
+        let n = self.counts[k];
+        store::slot_copy(store, 2048 * k + 512 * n as usize, from, len as usize);
+        let h = Queued { flow, len, iface };
+        self.with_head(k, h)
+    }
+
+    // Socket k's heads without the first: the others one place further down.
+    fn without_first(self, k: usize) -> Queues
+        requires { ⌜ (k < 16) × (1 ≤ countAt self k) ⌝ }
+        ensures { λ r. ⌜ r ≡ withoutFirst self k ⌝ }
+    {
+        let mut q = self;
+        let n = q.counts[k];
+        let second = q.heads[4 * k + 1];
+        let third = q.heads[4 * k + 2];
+        let fourth = q.heads[4 * k + 3];
+        q.heads[4 * k] = second;
+        q.heads[4 * k + 1] = third;
+        q.heads[4 * k + 2] = fourth;
+        q.heads[4 * k + 3] = no_head();
+        q.counts[k] = n - 1;
+        q
+    }
+
+    // Socket k's oldest datagram goes into the buffer and leaves the queue (000, recvfrom.1 and recvfrom.6).
+    pub fn take(self, store: &mut [u8], k: usize, buffer: &mut [u8]) -> Queues
+        requires { ⌜ Some self (now store) k ⌝ }
+        requires { ⌜ (firstHead self k .len ≤ 512) × (firstHead self k .len ≤ length (now buffer)) ⌝ }
+        ensures { λ r. ⌜ left r (now (store .exit)) (now (buffer .exit)) ≡ taken self (now (store .entry)) k (now (buffer .entry)) ⌝ }
+    {
+        let h = self.heads[4 * k];
+        let n = self.counts[k];
+        store::slot_read(store, 2048 * k, buffer, h.len as usize);
+        store::slots_pop(store, 2048 * k, n as usize);
+        self.without_first(k)
+    }
+
+    // Socket k holds nothing, and its 2,048 bytes are zero (000, close.1).
+    pub fn clear(self, store: &mut [u8], k: usize) -> Queues
+        requires { ⌜ (k < 16) × (length (now store) ≡ 40960) ⌝ }
+        ensures { λ r. ⌜ left r (now (store .exit)) [] ≡ cleared self (now (store .entry)) k ⌝ }
+    {
+        store::clear(store, 2048 * k, 2048);
+        let mut q = self;
+        let z = no_head();
+        q.heads[4 * k] = z;
+        q.heads[4 * k + 1] = z;
+        q.heads[4 * k + 2] = z;
+        q.heads[4 * k + 3] = z;
+        q.counts[k] = 0;
+        q
+    }
+
+    // Nobody holds anything, and bytes 0 to 32,767 are zero (000, exit.1).
+    pub fn clear_all(store: &mut [u8]) -> Queues
+        requires { ⌜ length (now store) ≡ 40960 ⌝ }
+        ensures { λ r. ⌜ left r (now (store .exit)) [] ≡ emptied (now (store .entry)) ⌝ }
+    {
+        store::clear(store, 0, 32768);
+        Queues::empty()
+    }
+}
