@@ -1,6 +1,7 @@
 -- What a score says: nothing without an open local port, the number of parts where all agree; and two that match have reuse.
 -- Assumes nothing.
 use mathlib.Core.Path.{_≡_, refl, sym, _∙_}
+use mathlib.Core.List.{List}
 use mathlib.Core.Logic.{_≢_, _⊎_, inl, inr, ⊎-elim}
 use mathlib.Core.Bool.{Bool, true, false, cond}
 use Prim.Native.Nat.{ℕ, _+_, _<_, _≤_}
@@ -12,7 +13,9 @@ use Rattle.laws.proofs.Tests.{two, not-both, cond-cases}
 use Rattle.laws.proofs.Decide.{d-eq, f-eq, d-yes, d-not, d-and, d-unless, d-to}
 use Rattle.net.specs.declared.Flow.{Flow}
 use Rattle.state.specs.declared.Socket.{Socket}
+use Rattle.state.specs.Places.{socketIn}
 use Rattle.state.specs.Plain.{Overlap, Apart}
+use Rattle.state.proofs.Fits.{AllApart}
 use Rattle.matching.specs.Scores.{agrees, matched, one, parts, scoreOf}
 use Rattle.matching.specs.Plain.{Matches}
 
@@ -67,5 +70,10 @@ agree-overlap a b d ea eb =
     (λ (x : a ≢ 0). ⊎-elim (λ (e : b ≡ 0). inr (inr e)) (λ (y : b ≢ 0). inl (ea x ∙ sym (eb y))) (same-or-not b 0))
     (same-or-not a 0)
 
-pub matching-reuse : {s t : Socket} → Apart s t → (f : Flow) → Matches s f → Matches t f → (s .reuse ≡ true) × (t .reuse ≡ true)
+matching-reuse : {s t : Socket} → Apart s t → (f : Flow) → Matches s f → Matches t f → (s .reuse ≡ true) × (t .reuse ≡ true)
 matching-reuse {s} {t} a f m n = a .reused (m .live) (n .live) (m .port) (m .here ∙ sym (n .here)) (agree-overlap (s .laddr) (t .laddr) (f .dst) (m .local) (n .local))
+
+-- demand 3's first half, of the sockets
+pub both-reuse : (ks : List Socket) → AllApart ks → (f : Flow) (j k : ℕ) → j < 16 → k < 16 → j ≢ k → scoreOf (socketIn ks j) f ≢ 0 → scoreOf (socketIn ks k) f ≢ 0
+    → (socketIn ks j .reuse ≡ true) × (socketIn ks k .reuse ≡ true)
+both-reuse ks all f j k lj lk d sj sk = matching-reuse (all j k lj lk d) f (score-matches (socketIn ks j) f sj) (score-matches (socketIn ks k) f sk)

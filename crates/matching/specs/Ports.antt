@@ -19,9 +19,12 @@ leaves ks j k reuse a p = eqb j k || not (takes (socketIn ks j) reuse a p)
 unfoldable pub inUse : List Socket → ℕ → ℕ → ℕ → Bool
 inUse ks k a p = not (allBelow (λ j. leaves ks j k (socketIn ks k .reuse) a p) 16)
 
+abbrev pub lacksPort : Socket → ℕ → Bool
+lacksPort s p = not (eqb (s .lport .0) p)
+
 -- no socket has p as its local port
 unfoldable pub portFree : List Socket → ℕ → Bool
-portFree ks p = allBelow (λ j. not (eqb (socketIn ks j .lport .0) p)) 16
+portFree ks p = allBelow (λ j. lacksPort (socketIn ks j) p) 16
 
 -- autobind: the lowest port of 1024 to 4999 that no socket has
 unfoldable pub autoPort : List Socket → ℕ

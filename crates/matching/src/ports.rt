@@ -3,7 +3,7 @@ use net::Port;
 use state::Socket;
 ghost use mathlib.Core.Path.{_≡_};
 ghost use Prim.Native.Nat.{_<_};
-ghost use Rattle.matching.specs.Ports.{takes, leaves, inUse, portFree, autoPort};
+ghost use Rattle.matching.specs.Ports.{takes, leaves, inUse, lacksPort, portFree, autoPort};
 
 // The socket s keeps a socket with this reuse off the pair of address and port.
 fn is_taking(s: Socket, reuse: bool, a: u32, p: Port) -> bool
@@ -33,14 +33,20 @@ pub fn is_in_use(sockets: [Socket; 16], k: usize, a: u32, p: Port) -> bool
     !ok
 }
 
+// s has another local port, or none.
+fn lacks_port(s: Socket, p: Port) -> bool
+    ensures { λ r. ⌜ r ≡ lacksPort s (p .0) ⌝ }
+{
+    s.lport.0 != p.0
+}
+
 // No socket has p as its local port.
 pub fn is_port_free(sockets: [Socket; 16], p: Port) -> bool
     ensures { λ r. ⌜ r ≡ portFree sockets (p .0) ⌝ }
 {
     let mut ok = true;
     for j in 0..16 {
-        let s = sockets[j];
-        ok = ok & (s.lport.0 != p.0);
+        ok = ok & lacks_port(sockets[j], p);
     }
     ok
 }

@@ -1,0 +1,12 @@
+-- Document 01's cases marked P hold, all in one statement.
+-- Assumes nothing.
+use mathlib.Core.Path.{_≡_, refl}
+use mathlib.Core.Bool.{true}
+use Rattle.laws.specs.Below.{allBelow, lowest}
+use Rattle.matching.specs.Scores.{scoreOf, bestBelow}
+use Rattle.matching.specs.Ports.{inUse, portFree, autoPort}
+use Rattle.cases.specs.Table.{table, rowsHold}
+
+pub cases : rowsHold table ≡ true
+unfolding table scoreOf bestBelow inUse portFree autoPort allBelow lowest
+cases = refl
