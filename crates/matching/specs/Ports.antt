@@ -12,12 +12,13 @@ use Rattle.state.specs.Sockets.{overlap}
 abbrev pub takes : Socket → Bool → ℕ → ℕ → Bool
 takes s reuse a p = s .live && eqb (s .lport .0) p && overlap (s .laddr) a && not (s .reuse && reuse)
 
-abbrev pub leaves : List Socket → ℕ → ℕ → Bool → ℕ → ℕ → Bool
-leaves ks j k reuse a p = eqb j k || not (takes (socketIn ks j) reuse a p)
+-- or it is the one that asks
+abbrev pub leaves : Socket → Bool → Bool → ℕ → ℕ → Bool
+leaves s itself reuse a p = itself || not (takes s reuse a p)
 
 -- another open socket keeps socket k off the pair
 unfoldable pub inUse : List Socket → ℕ → ℕ → ℕ → Bool
-inUse ks k a p = not (allBelow (λ j. leaves ks j k (socketIn ks k .reuse) a p) 16)
+inUse ks k a p = not (allBelow (λ j. leaves (socketIn ks j) (eqb j k) (socketIn ks k .reuse) a p) 16)
 
 abbrev pub lacksPort : Socket → ℕ → Bool
 lacksPort s p = not (eqb (s .lport .0) p)

@@ -12,12 +12,11 @@ fn is_taking(s: Socket, reuse: bool, a: u32, p: Port) -> bool
     s.live & (s.lport.0 == p.0) & state::sockets::is_overlap(s.laddr, a) & !(s.reuse & reuse)
 }
 
-// Socket j leaves the pair to socket k, which has this reuse.
-fn is_leaving(sockets: [Socket; 16], j: usize, k: usize, reuse: bool, a: u32, p: Port) -> bool
-    requires { ⌜ j < 16 ⌝ }
-    ensures { λ r. ⌜ r ≡ leaves sockets j k reuse a (p .0) ⌝ }
+// The socket leaves the pair to the one that asks, which has this reuse; always where it is that one itself.
+fn is_leaving(s: Socket, itself: bool, reuse: bool, a: u32, p: Port) -> bool
+    ensures { λ r. ⌜ r ≡ leaves s itself reuse a (p .0) ⌝ }
 {
-    (j == k) | !is_taking(sockets[j], reuse, a, p)
+    itself | !is_taking(s, reuse, a, p)
 }
 
 // Another open socket has that port, overlapping addresses, and not both have reuse.
@@ -28,7 +27,7 @@ pub fn is_in_use(sockets: [Socket; 16], k: usize, a: u32, p: Port) -> bool
     let reuse = sockets[k].reuse;
     let mut ok = true;
     for j in 0..16 {
-        ok = ok & is_leaving(sockets, j, k, reuse, a, p);
+        ok = ok & is_leaving(sockets[j], j == k, reuse, a, p);
     }
     !ok
 }

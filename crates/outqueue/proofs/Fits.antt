@@ -8,11 +8,11 @@ use Rattle.laws.specs.Decides.{Decides}
 use Rattle.laws.proofs.Decide.{d-eq, f-eq, d-le, d-lt, f-lt, d-yes, d-to, d-and, d-unless, d-cond, d-all}
 use Rattle.state.specs.declared.Interface.{Interface}
 use Rattle.state.specs.declared.OutItem.{OutItem}
-use Rattle.state.specs.Places.{noItem}
-use Rattle.state.specs.Interfaces.{ours}
+use Rattle.state.specs.Places.{noItem, interfaceIn}
+use Rattle.state.specs.Interfaces.{own, ours}
 use Rattle.outqueue.specs.declared.OutQueue.{OutQueue}
 use Rattle.outqueue.specs.Moves.{sourceOf, itemAt}
-use Rattle.outqueue.specs.Fits.{emptyItem, itemOk, outOk, ItemFit, OutFit}
+use Rattle.outqueue.specs.Fits.{emptyItem, itemOkOf, outOk, ItemFit, OutFit}
 
 empty-is : (x : OutItem) → Decides (emptyItem x) (x ≡ noItem)
 empty-is x =
@@ -25,7 +25,8 @@ empty-is x =
         → _≡_ {A = OutItem} (record { flow = record { src = src; dst = dst; sport = record { 0 = sport }; dport = record { 0 = dport } }; len = len; kind = kind }) noItem
     join a b c d e f ea eb ec ed ee ef = rw (ea, eb, ec, ed, ee, ef)
 
-item-is : (is : List Interface) (x : OutItem) → Decides (itemOk is x) (ItemFit is x)
+item-is : (is : List Interface) (x : OutItem) → Decides (itemOkOf (interfaceIn is 0) (interfaceIn is 1) (interfaceIn is 2) (interfaceIn is 3) x) (ItemFit is x)
+unfolding own
 item-is is x =
     d-to (d-and (d-and (d-and (d-le (x .kind) 2) (d-le (x .len) 512)) (d-unless (f-eq (x .kind) 0) (d-eq (x .len) 0))) (d-yes (ours is (sourceOf x))))
     (λ p. record { kind = p .0 .0 .0; small = p .0 .0 .1; bare = p .0 .1; source = p .1 })

@@ -8,8 +8,8 @@ use lib.Dec.{ltb, leb, eqb}
 use Rattle.laws.specs.Below.{allBelow}
 use Rattle.state.specs.declared.Interface.{Interface}
 use Rattle.state.specs.declared.OutItem.{OutItem}
-use Rattle.state.specs.Places.{noItem}
-use Rattle.state.specs.Interfaces.{ours}
+use Rattle.state.specs.Places.{noItem, interfaceIn}
+use Rattle.state.specs.Interfaces.{oursOf, ours}
 use Rattle.outqueue.specs.declared.OutQueue.{OutQueue}
 use Rattle.outqueue.specs.Moves.{sourceOf, itemAt}
 
@@ -22,16 +22,18 @@ emptyItem x =
     && eqb (x .len) 0
     && eqb (x .kind) 0
 
--- a kind that there is, no payload over 512, none with a notice, and a source of our own
-abbrev pub itemOk : List Interface → OutItem → Bool
-itemOk is x = leb (x .kind) 2 && leb (x .len) 512 && (eqb (x .kind) 0 || eqb (x .len) 0) && ours is (sourceOf x)
+-- a kind that there is, no payload over 512, none with a notice, and a source of our own (w, x, y and z are the four interfaces)
+abbrev pub itemOkOf : Interface → Interface → Interface → Interface → OutItem → Bool
+itemOkOf w x y z item = leb (item .kind) 2 && leb (item .len) 512 && (eqb (item .kind) 0 || eqb (item .len) 0) && oursOf w x y z (sourceOf item)
 
 -- everything unused is zero
-abbrev pub itemFits : List Interface → Bool → OutItem → Bool
-itemFits is used x = cond used (itemOk is x) (emptyItem x)
+abbrev pub itemFits : Interface → Interface → Interface → Interface → Bool → OutItem → Bool
+itemFits w x y z used item = cond used (itemOkOf w x y z item) (emptyItem item)
 
 unfoldable pub outOk : List Interface → OutQueue → Bool
-outOk is o = leb (o .count) 16 && allBelow (λ i. itemFits is (ltb i (o .count)) (itemAt o i)) 16
+outOk is o =
+    leb (o .count) 16
+    && allBelow (λ i. itemFits (interfaceIn is 0) (interfaceIn is 1) (interfaceIn is 2) (interfaceIn is 3) (ltb i (o .count)) (itemAt o i)) 16
 
 -- ---- the same in plain statements
 

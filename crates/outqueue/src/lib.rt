@@ -11,7 +11,7 @@ ghost use lib.ListN.{length};
 ghost use Rattle.laws.specs.Places.{popped};
 ghost use Rattle.state.specs.Places.{noItem};
 ghost use Rattle.outqueue.specs.Moves.{sourceOf, datagramOf, noticeOf, noItems, withItem, withoutFirst, left, added, removed, Room, Some};
-ghost use Rattle.outqueue.specs.Fits.{emptyItem, itemOk, itemFits, outOk};
+ghost use Rattle.outqueue.specs.Fits.{emptyItem, itemOkOf, itemFits, outOk};
 
 // Item i is the i-th oldest; its payload is the slot of 512 bytes at byte 32,768 + 512 * i.
 pub struct OutQueue {
@@ -54,23 +54,30 @@ fn is_empty_item(x: OutItem) -> bool
         & (x.kind == 0)
 }
 
-fn is_item(interfaces: [Interface; 4], x: OutItem) -> bool
-    ensures { λ r. ⌜ r ≡ itemOk interfaces x ⌝ }
+fn is_item(w: Interface, x: Interface, y: Interface, z: Interface, item: OutItem) -> bool
+    ensures { λ r. ⌜ r ≡ itemOkOf w x y z item ⌝ }
 {
-    (x.kind <= 2)
-        & (x.len <= 512)
-        & ((x.kind == 0) | (x.len == 0))
-        & state::interfaces::is_ours(interfaces, source(x))
+    (item.kind <= 2)
+        & (item.len <= 512)
+        & ((item.kind == 0) | (item.len == 0))
+        & state::interfaces::is_ours_of(w, x, y, z, source(item))
 }
 
 // A place that is in use has an item, any other nothing.
-fn item_fits(interfaces: [Interface; 4], x: OutItem, used: bool) -> bool
-    ensures { λ r. ⌜ r ≡ itemFits interfaces used x ⌝ }
+fn item_fits(
+    w: Interface,
+    x: Interface,
+    y: Interface,
+    z: Interface,
+    item: OutItem,
+    used: bool,
+) -> bool
+    ensures { λ r. ⌜ r ≡ itemFits w x y z used item ⌝ }
 {
     if used {
-        is_item(interfaces, x)
+        is_item(w, x, y, z, item)
     } else {
-        is_empty_item(x)
+        is_empty_item(item)
     }
 }
 
@@ -78,11 +85,15 @@ impl OutQueue {
     pub fn are_items(self, interfaces: [Interface; 4]) -> bool
         ensures { λ r. ⌜ r ≡ outOk interfaces self ⌝ }
     {
+        let w = interfaces[0];
+        let x = interfaces[1];
+        let y = interfaces[2];
+        let z = interfaces[3];
         let items = self.items;
         let n = self.count as usize;
         let mut ok = n <= 16;
         for i in 0..16 {
-            ok = ok & item_fits(interfaces, items[i], i < n);
+            ok = ok & item_fits(w, x, y, z, items[i], i < n);
         }
         ok
     }

@@ -1,5 +1,5 @@
 -- What well-formedness asks of the queues: document 01, "A record is well formed when"
-use Prim.Native.Nat.{ℕ, _+_, _*_, _<_, _≤_}
+use Prim.Native.Nat.{ℕ, _<_, _≤_}
 use mathlib.Core.Path.{_≡_}
 use mathlib.Core.List.{List}
 use mathlib.Core.Bool.{Bool, false, _&&_, _||_, cond}
@@ -7,9 +7,9 @@ use lib.Dec.{ltb, leb, eqb}
 use Rattle.laws.specs.Below.{allBelow}
 use Rattle.state.specs.declared.Queued.{Queued}
 use Rattle.state.specs.declared.Socket.{Socket}
-use Rattle.state.specs.Places.{noHead, headIn, socketIn}
+use Rattle.state.specs.Places.{noHead, socketIn}
 use Rattle.queues.specs.declared.Queues.{Queues}
-use Rattle.queues.specs.Moves.{countAt, headAt}
+use Rattle.queues.specs.Moves.{countAt, headAt, firstHead}
 
 abbrev pub emptyHead : Queued → Bool
 emptyHead h =
@@ -24,12 +24,13 @@ emptyHead h =
 abbrev pub headFits : ℕ → ℕ → Queued → Bool
 headFits n i h = cond (ltb i n) (leb (h .len) 512) (emptyHead h)
 
-unfoldable pub placesFit : List Queued → ℕ → ℕ → Bool
-placesFit hs k n = allBelow (λ i. headFits n i (headIn hs (4 * k + i))) 4
+-- the count within its limit, and nothing held by a closed socket
+abbrev pub queueFits : Bool → ℕ → Queued → Queued → Queued → Queued → Bool
+queueFits live n a b c d = leb n 4 && (live || eqb n 0) && (headFits n 0 a && headFits n 1 b && headFits n 2 c && headFits n 3 d)
 
--- socket k's queue: the count within its limit, and nothing held by a closed socket
+-- socket k's queue
 abbrev pub queueOk : Bool → Queues → ℕ → Bool
-queueOk live q k = leb (countAt q k) 4 && (live || eqb (countAt q k) 0) && placesFit (q .heads) k (countAt q k)
+queueOk live q k = queueFits live (countAt q k) (firstHead q k) (headAt q k 1) (headAt q k 2) (headAt q k 3)
 
 unfoldable pub queuesOk : List Socket → Queues → Bool
 queuesOk ks q = allBelow (λ k. queueOk (socketIn ks k .live) q k) 16

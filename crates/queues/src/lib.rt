@@ -11,7 +11,7 @@ ghost use lib.ListN.{length};
 ghost use Rattle.laws.specs.Places.{part};
 ghost use Rattle.state.specs.Places.{noHead};
 ghost use Rattle.queues.specs.Moves.{countAt, firstHead, headOf, noQueues, withHead, withoutFirst, left, pushed, taken, cleared, emptied, Room, Some};
-ghost use Rattle.queues.specs.Fits.{emptyHead, headFits, placesFit, queueOk, queuesOk};
+ghost use Rattle.queues.specs.Fits.{emptyHead, headFits, queueFits, queuesOk};
 
 // Socket k's queue is the heads from 4 * k, oldest first, and the four slots of 512 bytes from byte 2,048 * k.
 pub struct Queues {
@@ -58,34 +58,34 @@ fn head_fits(h: Queued, i: usize, n: usize) -> bool
     }
 }
 
-// The four places of socket k's queue, which holds n.
-fn places_fit(heads: [Queued; 64], k: usize, n: usize) -> bool
-    requires { ⌜ k < 16 ⌝ }
-    ensures { λ r. ⌜ r ≡ placesFit heads k n ⌝ }
+// The four places of a queue that holds n; a closed socket's holds nothing.
+fn queue_fits(live: bool, n: usize, a: Queued, b: Queued, c: Queued, d: Queued) -> bool
+    ensures { λ r. ⌜ r ≡ queueFits live n a b c d ⌝ }
 {
-    let mut ok = true;
-    for i in 0..4 {
-        ok = ok & head_fits(heads[4 * k + i], i, n);
-    }
-    ok
+    (n <= 4)
+        & (live | (n == 0))
+        & (head_fits(a, 0, n) & head_fits(b, 1, n) & head_fits(c, 2, n) & head_fits(d, 3, n))
 }
 
 impl Queues {
-    fn is_queue(self, k: usize, live: bool) -> bool
-        requires { ⌜ k < 16 ⌝ }
-        ensures { λ r. ⌜ r ≡ queueOk live self k ⌝ }
-    {
-        let heads = self.heads;
-        let n = self.counts[k] as usize;
-        (n <= 4) & (live | (n == 0)) & places_fit(heads, k, n)
-    }
-
     pub fn are_queues(self, sockets: [Socket; 16]) -> bool
         ensures { λ r. ⌜ r ≡ queuesOk sockets self ⌝ }
     {
+        let heads = self.heads;
+        let counts = self.counts;
         let mut ok = true;
         for k in 0..16 {
-            ok = ok & self.is_queue(k, sockets[k].live);
+            let live = sockets[k].live;
+            let n = counts[k] as usize;
+            ok = ok
+                & queue_fits(
+                    live,
+                    n,
+                    heads[4 * k],
+                    heads[4 * k + 1],
+                    heads[4 * k + 2],
+                    heads[4 * k + 3],
+                );
         }
         ok
     }

@@ -6,20 +6,30 @@ use mathlib.Core.Logic.{_≢_, _⊎_, inl, inr, ⊎-elim}
 use mathlib.Core.Bool.{Bool, true, false, false≢true}
 use Prim.Native.Nat.{ℕ, _<_, _≤_}
 use native.Mathlib.Omega.{arith}
+use Rattle.laws.specs.Below.{allBelow}
 use Rattle.laws.specs.Decides.{Decides}
 use Rattle.laws.proofs.Numbers.{side, apart}
 use Rattle.laws.proofs.Tests.{two, not-both}
+use Rattle.laws.proofs.Below.{all-from}
 use Rattle.laws.proofs.Decide.{d-eq, f-eq, d-lt, f-lt, d-yes, f-yes, d-to, d-not, f-not, d-and, d-or, d-unless, d-cond, d-all}
 use Rattle.state.specs.declared.Interface.{Interface}
 use Rattle.state.specs.declared.Socket.{Socket}
 use Rattle.state.specs.declared.Thread.{Thread}
 use Rattle.state.specs.declared.Thread.the-variants.{Running, Waiting, Ended}
 use Rattle.state.specs.Places.{noSocket, socketIn}
-use Rattle.state.specs.Interfaces.{ours}
-use Rattle.state.specs.Sockets.{chained, localKnown, errorKnown, blank, socketOk, socketsOk, overlap, compatible, apartAt, allApart, openAt}
+use Rattle.state.specs.Interfaces.{own, ours}
+use Rattle.state.specs.Sockets.{chained, localKnown, errorKnown, blank, socketOk, socketsOk, overlap, compatible, earlier, apartAt, allApart, openAt}
 use Rattle.state.specs.Threads.{boundAt, threadOk, waiting}
 use Rattle.state.specs.Plain.{Chained, LocalKnown, ErrorKnown, SocketFit, Overlap, Apart, Bound, Awaited}
-use Rattle.state.proofs.Opened.{d-earlier}
+
+-- below i where a thing is in use, for none where it is not
+d-earlier : {u : Bool} {f : ℕ → Bool} {i : ℕ} {U : Type 0} {P : ℕ → Type 0} → Decides u U → (U → (j : ℕ) → j < i → Decides (f j) (P j))
+    → Decides (allBelow f (earlier u i)) (U → (j : ℕ) → j < i → P j)
+d-earlier {u} {f} {i} {U} {P} c d = go u c
+  where
+    go : (u : Bool) → Decides u U → Decides (allBelow f (earlier u i)) (U → (j : ℕ) → j < i → P j)
+    go true y = record { says = λ e x. d-all (d x) .says e; back = λ p. let x = y .says refl in d-all (d x) .back (p x) }
+    go false y = record { says = λ e x. not-both (y .back x) refl; back = λ p. all-from f 0 (λ j l. absurd (omega arith)) }
 
 -- ---- one socket
 
@@ -42,6 +52,7 @@ chained-is s =
     (λ w. ((w .peer, w .remote), w .local))
 
 local-is : (is : List Interface) (s : Socket) → Decides (localKnown is (s .laddr)) (LocalKnown is s)
+unfolding localKnown own
 local-is is s =
     d-to (d-cond (d-eq (s .laddr) 0) (f-eq (s .laddr) 0) (d-yes true) (d-yes (ours is (s .laddr))))
     (λ p. ⊎-elim (λ e. inl e) (λ d. inr (p .1 d)) (zero-or (s .laddr)))

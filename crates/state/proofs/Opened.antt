@@ -6,17 +6,15 @@ use mathlib.Core.Logic.{_≢_, _⊎_, inl, inr, ⊎-elim}
 use mathlib.Core.Bool.{Bool, true, false, _&&_}
 use Prim.Native.Nat.{ℕ, zero, suc, _<_, _≤_}
 use native.Mathlib.Omega.{arith}
-use Rattle.laws.specs.Below.{allBelow}
 use Rattle.laws.specs.Decides.{Decides}
 use Rattle.laws.proofs.Numbers.{side, apart, same-or-not}
 use Rattle.laws.proofs.Tests.{two, not-both}
-use Rattle.laws.proofs.Below.{all-from}
 use Rattle.laws.proofs.Decide.{d-eq, f-eq, d-le, d-lt, f-lt, d-yes, f-yes, f-to, d-to, d-not, f-not, d-and, d-or, f-absurd, d-unless, d-cond, d-all}
 use Rattle.net.specs.Address.{loopback, martian, stray, agree}
 use Rattle.net.proofs.Address.{agree-refl, agree-sym, agree-trans}
 use Rattle.state.specs.declared.Interface.{Interface}
 use Rattle.state.specs.Places.{interfaceIn, noInterface}
-use Rattle.state.specs.Interfaces.{addressOf, idKnown, addressed, member, inOneNet, distinctWithin, acceptable, usable, interfaceOk, blank, fits, holds, lacks, pairApart, earlier, placeOk, openingOk}
+use Rattle.state.specs.Interfaces.{addressOf, idKnown, addressed, member, inOneNet, distinctWithin, acceptable, usable, interfaceOk, blank, fits, holds, lacks, pairApart, placeOk, openingOk}
 use Rattle.state.specs.Plain.{HasAt, Addressed, Opened}
 
 -- ---- a place that is not in use
@@ -116,15 +114,6 @@ pair-is x y =
 
 -- ---- all of them
 
--- below i where a thing is in use, for none where it is not
-pub d-earlier : {u : Bool} {f : ℕ → Bool} {i : ℕ} {U : Type 0} {P : ℕ → Type 0} → Decides u U → (U → (j : ℕ) → j < i → Decides (f j) (P j))
-    → Decides (allBelow f (earlier u i)) (U → (j : ℕ) → j < i → P j)
-d-earlier {u} {f} {i} {U} {P} c d = go u c
-  where
-    go : (u : Bool) → Decides u U → Decides (allBelow f (earlier u i)) (U → (j : ℕ) → j < i → P j)
-    go true y = record { says = λ e x. d-all (d x) .says e; back = λ p. let x = y .says refl in d-all (d x) .back (p x) }
-    go false y = record { says = λ e x. not-both (y .back x) refl; back = λ p. all-from f 0 (λ j l. absurd (omega arith)) }
-
 record PlaceFit (is : List Interface) (n i : ℕ) : Type 0 where
   used : i < n → InterfaceFit (interfaceIn is i)
   unused : n ≤ i → interfaceIn is i ≡ noInterface
@@ -133,10 +122,10 @@ record PlaceFit (is : List Interface) (n i : ℕ) : Type 0 where
 place-is : (is : List Interface) (n i : ℕ) → Decides (placeOk is n i) (PlaceFit is n i)
 place-is is n i =
     d-to
-    (d-and (d-cond (d-lt i n) (f-lt i n) (interface-is (interfaceIn is i)) (blank-is (interfaceIn is i)))
-    (d-earlier (d-lt i n) (λ u j m. pair-is (interfaceIn is j) (interfaceIn is i))))
-    (λ p. record { used = p .0 .0; unused = p .0 .1; earlier = p .1 })
-    (λ w. ((w .used, w .unused), w .earlier))
+    (d-and (d-all (λ j m. d-cond (d-lt i n) (f-lt i n) (pair-is (interfaceIn is j) (interfaceIn is i)) (d-yes true)))
+    (d-cond (d-lt i n) (f-lt i n) (interface-is (interfaceIn is i)) (blank-is (interfaceIn is i))))
+    (λ p. record { used = p .1 .0; unused = p .1 .1; earlier = λ u j m. p .0 j m .0 u })
+    (λ w. (λ j m. (λ u. w .earlier u j m, λ v. refl), (w .used, w .unused)))
 
 -- from each place to the statement as document 01 has it
 module _ {is : List Interface} {n : ℕ} (few : n ≤ 4) (fit : (i : ℕ) → i < 4 → PlaceFit is n i) where

@@ -1,7 +1,7 @@
 -- The opening check (000, 2.3.24, and document 01), and whose an address is
 use Prim.Native.Nat.{ℕ, zero, suc}
 use mathlib.Core.List.{List}
-use mathlib.Core.Bool.{Bool, _&&_, _||_, not, cond}
+use mathlib.Core.Bool.{Bool, true, _&&_, _||_, not, cond}
 use lib.Dec.{ltb, leb, eqb}
 use Rattle.laws.specs.Below.{allBelow, lowest}
 use Rattle.net.specs.declared.InterfaceId.{InterfaceId}
@@ -67,15 +67,15 @@ lacks x a = eqb a 0 || not (holds x a)
 unfoldable pub pairApart : Interface → Interface → Bool
 pairApart x y = not (eqb (x .id .0) (y .id .0)) && allBelow (λ p. lacks x (addressOf y p)) 4
 
+-- if the second is in use
+abbrev pub apartIf : Bool → Interface → Interface → Bool
+apartIf used x y = cond used (pairApart x y) true
+
 -- ---- all of them
 
--- with how many earlier ones a place has to be compared: none where it is not in use
-abbrev pub earlier : Bool → ℕ → ℕ
-earlier used i = cond used i 0
-
--- the place i of the array, of which n are in use
+-- the place i of the array, of which n are in use, with those before it
 abbrev pub placeOk : List Interface → ℕ → ℕ → Bool
-placeOk is n i = fits (ltb i n) (interfaceIn is i) && allBelow (λ j. pairApart (interfaceIn is j) (interfaceIn is i)) (earlier (ltb i n) i)
+placeOk is n i = allBelow (λ j. apartIf (ltb i n) (interfaceIn is j) (interfaceIn is i)) i && fits (ltb i n) (interfaceIn is i)
 
 -- the opening check: at most 4 records
 unfoldable pub openingOk : List Interface → ℕ → Bool
@@ -83,9 +83,15 @@ openingOk is n = leb n 4 && allBelow (placeOk is n) 4
 
 -- ---- whose an address is
 
+abbrev pub ownOf : Interface → Interface → Interface → Interface → ℕ → Bool
+ownOf w x y z a = not (eqb a 0) && (holds w a || holds x a || holds y a || holds z a)
+
+abbrev pub oursOf : Interface → Interface → Interface → Interface → ℕ → Bool
+oursOf w x y z a = loopback a || ownOf w x y z a
+
 -- an address of one of the interfaces: "configured"
 unfoldable pub own : List Interface → ℕ → Bool
-own is a = not (eqb a 0) && (holds (interfaceIn is 0) a || holds (interfaceIn is 1) a || holds (interfaceIn is 2) a || holds (interfaceIn is 3) a)
+own is a = ownOf (interfaceIn is 0) (interfaceIn is 1) (interfaceIn is 2) (interfaceIn is 3) a
 
 -- 127/8 included
 abbrev pub ours : List Interface → ℕ → Bool

@@ -6,8 +6,8 @@ use lib.Dec.{ltb, eqb}
 use Rattle.laws.specs.Below.{allBelow}
 use Rattle.state.specs.declared.Interface.{Interface}
 use Rattle.state.specs.declared.Socket.{Socket}
-use Rattle.state.specs.Places.{socketIn}
-use Rattle.state.specs.Interfaces.{earlier, ours}
+use Rattle.state.specs.Places.{interfaceIn, socketIn}
+use Rattle.state.specs.Interfaces.{oursOf}
 
 -- ---- one socket
 
@@ -16,8 +16,11 @@ abbrev pub chained : Socket → Bool
 chained s = (eqb (s .rport .0) 0 || not (eqb (s .raddr) 0)) && (eqb (s .raddr) 0 || not (eqb (s .laddr) 0)) && (eqb (s .laddr) 0 || not (eqb (s .lport .0) 0))
 
 -- a local address is 0 or our own
-abbrev pub localKnown : List Interface → ℕ → Bool
-localKnown is a = cond (eqb a 0) true (ours is a)
+abbrev pub knownOf : Interface → Interface → Interface → Interface → ℕ → Bool
+knownOf w x y z a = cond (eqb a 0) true (oursOf w x y z a)
+
+unfoldable pub localKnown : List Interface → ℕ → Bool
+localKnown is a = knownOf (interfaceIn is 0) (interfaceIn is 1) (interfaceIn is 2) (interfaceIn is 3) a
 
 -- a pending error is 0 or 10
 abbrev pub errorKnown : ℕ → Bool
@@ -35,8 +38,11 @@ blank s =
     && not (s .bsdcompat)
     && not (s .reuse)
 
+abbrev pub socketFits : Bool → Socket → Bool
+socketFits known s = cond (s .live) (chained s && known && errorKnown (s .error)) (blank s)
+
 abbrev pub socketOk : List Interface → Socket → Bool
-socketOk is s = cond (s .live) (chained s && localKnown is (s .laddr) && errorKnown (s .error)) (blank s)
+socketOk is s = socketFits (localKnown is (s .laddr)) s
 
 unfoldable pub socketsOk : List Interface → List Socket → Bool
 socketsOk is ks = allBelow (λ k. socketOk is (socketIn ks k)) 16
@@ -50,6 +56,10 @@ overlap a b = eqb a b || eqb a 0 || eqb b 0
 -- on one local port with overlapping local addresses both have reuse
 abbrev pub compatible : Socket → Socket → Bool
 compatible s t = not (eqb (s .lport .0) (t .lport .0) && overlap (s .laddr) (t .laddr)) || (s .reuse && t .reuse)
+
+-- with how many earlier ones a thing has to be compared: none where it is not in use
+abbrev pub earlier : Bool → ℕ → ℕ
+earlier used k = cond used k 0
 
 -- socket k and every earlier one, if k has a local port: one that is closed has none
 abbrev pub apartAt : List Socket → ℕ → Bool

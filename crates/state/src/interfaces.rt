@@ -2,10 +2,8 @@
 use crate::Interface;
 use net::InterfaceId;
 ghost use mathlib.Core.Path.{_≡_};
-ghost use Prim.Native.Nat.{_<_, _≤_};
-ghost use Rattle.laws.specs.Below.{allBelow};
-ghost use Rattle.state.specs.Places.{interfaceIn};
-ghost use Rattle.state.specs.Interfaces.{idKnown, addressed, member, inOneNet, distinctWithin, acceptable, usable, interfaceOk, blank, fits, holds, lacks, pairApart, earlier, placeOk, openingOk, own, ours, holderId};
+ghost use mathlib.Core.Bool.{_&&_};
+ghost use Rattle.state.specs.Interfaces.{idKnown, addressed, member, inOneNet, distinctWithin, acceptable, usable, interfaceOk, blank, fits, holds, lacks, pairApart, apartIf, openingOk, ownOf, oursOf, own, ours, holderId};
 
 // ---- one interface
 
@@ -111,61 +109,71 @@ fn are_apart(x: Interface, y: Interface) -> bool
             & is_lacking(x, y.fourth))
 }
 
-// ---- all of them
-
-// With how many earlier ones a place has to be compared: none where it is not in use.
-pub fn peers(used: bool, i: usize) -> usize
-    ensures { λ r. ⌜ (r ≡ earlier used i) × (r ≤ i) ⌝ }
+// The two, if the second is in use.
+fn pair_fits(x: Interface, y: Interface, used: bool) -> bool
+    ensures { λ r. ⌜ r ≡ apartIf used x y ⌝ }
 {
-    if used { i } else { 0 }
+    if used { are_apart(x, y) } else { true }
 }
 
-// x and each of the first m.
-fn are_all_apart(interfaces: [Interface; 4], x: Interface, m: usize) -> bool
-    requires { ⌜ m ≤ 4 ⌝ }
-    ensures { λ r. ⌜ r ≡ allBelow (λ j. pairApart (interfaceIn interfaces j) x) m ⌝ }
+// ---- all of them: each place, and each with those before it
+
+fn third_fits(w: Interface, x: Interface, y: Interface, used: bool) -> bool
+    ensures { λ r. ⌜ r ≡ (apartIf used w y && apartIf used x y && fits used y) ⌝ }
 {
-    let mut ok = true;
-    for j in 0..m {
-        ok = ok & are_apart(interfaces[j], x);
-    }
-    ok
+    pair_fits(w, y, used) & pair_fits(x, y, used) & place_fits(y, used)
 }
 
-// The place i of the array, of which n are in use.
-fn is_place(interfaces: [Interface; 4], n: usize, i: usize) -> bool
-    requires { ⌜ i < 4 ⌝ }
-    ensures { λ r. ⌜ r ≡ placeOk interfaces n i ⌝ }
+fn fourth_fits(w: Interface, x: Interface, y: Interface, z: Interface, used: bool) -> bool
+    ensures { λ r. ⌜ r ≡ (apartIf used w z && apartIf used x z && apartIf used y z && fits used z) ⌝ }
 {
-    let x = interfaces[i];
-    place_fits(x, i < n) & are_all_apart(interfaces, x, peers(i < n, i))
+    pair_fits(w, z, used) & pair_fits(x, z, used) & pair_fits(y, z, used) & place_fits(z, used)
 }
 
 // The opening check: n interfaces in an array of 4.
 pub fn are_accepted(interfaces: [Interface; 4], n: usize) -> bool
     ensures { λ r. ⌜ r ≡ openingOk interfaces n ⌝ }
 {
-    let mut ok = n <= 4;
-    for i in 0..4 {
-        ok = ok & is_place(interfaces, n, i);
-    }
-    ok
+    let w = interfaces[0];
+    let x = interfaces[1];
+    let y = interfaces[2];
+    let z = interfaces[3];
+    (n <= 4)
+        & (place_fits(w, 0 < n)
+            & (pair_fits(w, x, 1 < n) & place_fits(x, 1 < n))
+            & third_fits(w, x, y, 2 < n)
+            & fourth_fits(w, x, y, z, 3 < n))
 }
 
 // ---- whose an address is
+
+// An address of one of the four.
+fn is_of(w: Interface, x: Interface, y: Interface, z: Interface, a: u32) -> bool
+    ensures { λ r. ⌜ r ≡ ownOf w x y z a ⌝ }
+{
+    (a != 0) & (has(w, a) | has(x, a) | has(y, a) | has(z, a))
+}
+
+// All of 127/8 is ours too.
+pub fn is_ours_of(w: Interface, x: Interface, y: Interface, z: Interface, a: u32) -> bool
+    ensures { λ r. ⌜ r ≡ oursOf w x y z a ⌝ }
+{
+    net::is_loopback(a) | is_of(w, x, y, z, a)
+}
 
 // An address of one of the interfaces.
 pub fn is_own(interfaces: [Interface; 4], a: u32) -> bool
     ensures { λ r. ⌜ r ≡ own interfaces a ⌝ }
 {
-    (a != 0)
-        & (has(interfaces[0], a)
-            | has(interfaces[1], a)
-            | has(interfaces[2], a)
-            | has(interfaces[3], a))
+    is_of(
+        interfaces[0],
+        interfaces[1],
+        interfaces[2],
+        interfaces[3],
+        a,
+    )
 }
 
-// All of 127/8 is ours too.
 pub fn is_ours(interfaces: [Interface; 4], a: u32) -> bool
     ensures { λ r. ⌜ r ≡ ours interfaces a ⌝ }
 {

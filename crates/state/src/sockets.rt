@@ -3,10 +3,8 @@ use crate::Interface;
 use crate::Socket;
 use crate::interfaces;
 ghost use mathlib.Core.Path.{_≡_};
-ghost use Prim.Native.Nat.{_≤_, _<_};
-ghost use Rattle.laws.specs.Below.{allBelow};
-ghost use Rattle.state.specs.Places.{socketIn};
-ghost use Rattle.state.specs.Sockets.{chained, localKnown, errorKnown, blank, socketOk, socketsOk, overlap, compatible, apartAt, allApart, openAt};
+ghost use Prim.Native.Nat.{_≤_};
+ghost use Rattle.state.specs.Sockets.{chained, knownOf, errorKnown, blank, socketFits, socketsOk, overlap, compatible, earlier, allApart, openAt};
 
 // ---- one socket
 
@@ -19,13 +17,13 @@ fn is_chained(s: Socket) -> bool
         & ((s.laddr == 0) | (s.lport.0 != 0))
 }
 
-fn is_local_known(interfaces: [Interface; 4], a: u32) -> bool
-    ensures { λ r. ⌜ r ≡ localKnown interfaces a ⌝ }
+fn is_local_known(w: Interface, x: Interface, y: Interface, z: Interface, a: u32) -> bool
+    ensures { λ r. ⌜ r ≡ knownOf w x y z a ⌝ }
 {
     if a == 0 {
         return true;
     }
-    interfaces::is_ours(interfaces, a)
+    interfaces::is_ours_of(w, x, y, z, a)
 }
 
 fn is_error_known(n: u8) -> bool
@@ -47,11 +45,11 @@ fn is_blank(s: Socket) -> bool
         & !s.reuse
 }
 
-fn is_socket(interfaces: [Interface; 4], s: Socket) -> bool
-    ensures { λ r. ⌜ r ≡ socketOk interfaces s ⌝ }
+fn is_socket(s: Socket, known: bool) -> bool
+    ensures { λ r. ⌜ r ≡ socketFits known s ⌝ }
 {
     if s.live {
-        is_chained(s) & is_local_known(interfaces, s.laddr) & is_error_known(s.error)
+        is_chained(s) & known & is_error_known(s.error)
     } else {
         is_blank(s)
     }
@@ -60,9 +58,14 @@ fn is_socket(interfaces: [Interface; 4], s: Socket) -> bool
 pub fn are_sockets(interfaces: [Interface; 4], sockets: [Socket; 16]) -> bool
     ensures { λ r. ⌜ r ≡ socketsOk interfaces sockets ⌝ }
 {
+    let w = interfaces[0];
+    let x = interfaces[1];
+    let y = interfaces[2];
+    let z = interfaces[3];
     let mut ok = true;
     for k in 0..16 {
-        ok = ok & is_socket(interfaces, sockets[k]);
+        let s = sockets[k];
+        ok = ok & is_socket(s, is_local_known(w, x, y, z, s.laddr));
     }
     ok
 }
@@ -83,33 +86,24 @@ pub fn are_compatible(s: Socket, t: Socket) -> bool
     !((s.lport.0 == t.lport.0) & is_overlap(s.laddr, t.laddr)) | (s.reuse & t.reuse)
 }
 
-// s and each of the first m.
-fn are_all_compatible(sockets: [Socket; 16], s: Socket, m: usize) -> bool
-    requires { ⌜ m ≤ 16 ⌝ }
-    ensures { λ r. ⌜ r ≡ allBelow (λ j. compatible (socketIn sockets j) s) m ⌝ }
+// With how many earlier ones a socket has to be compared: none where it has no local port.
+fn peers(used: bool, k: usize) -> usize
+    ensures { λ r. ⌜ (r ≡ earlier used k) × (r ≤ k) ⌝ }
 {
-    let mut ok = true;
-    for j in 0..m {
-        ok = ok & are_compatible(sockets[j], s);
-    }
-    ok
+    if used { k } else { 0 }
 }
 
-// Socket k and every earlier one, if k has a local port.
-fn is_apart(sockets: [Socket; 16], k: usize) -> bool
-    requires { ⌜ k < 16 ⌝ }
-    ensures { λ r. ⌜ r ≡ apartAt sockets k ⌝ }
-{
-    let s = sockets[k];
-    are_all_compatible(sockets, s, interfaces::peers(s.lport.0 != 0, k))
-}
-
+// Two loops in one function: an array that is handed on is copied each time.
 pub fn are_apart(sockets: [Socket; 16]) -> bool
     ensures { λ r. ⌜ r ≡ allApart sockets ⌝ }
 {
     let mut ok = true;
     for k in 0..16 {
-        ok = ok & is_apart(sockets, k);
+        let s = sockets[k];
+        let m = peers(s.lport.0 != 0, k);
+        for j in 0..m {
+            ok = ok & are_compatible(sockets[j], s);
+        }
     }
     ok
 }

@@ -1,36 +1,27 @@
 -- `state::interfaces::are_accepted` meets its contract.
 -- Assumes nothing.
-use Prim.Native.Nat.{_≤_, _-_}
+use Rattle.laws.specs.Below.{allBelow}
+use Rattle.state.specs.Interfaces.{openingOk}
 use borrow.Author.Needs.{needs}
-use Rattle.laws.proofs.Below.{Collected, all-start, all-turn, all-done}
-use lib.Dec.{leb}
-use Rattle.state.specs.Interfaces.{placeOk, openingOk}
 use Rattle.state.proofs.interfaces.are_accepted.Statement.{statement}
 use Rattle.state.proofs.interfaces.are_accepted.Tie as tie
 
-abbrev Inv-loop : tie.InvT-loop
-Inv-loop interfaces n ok₀ i₀ ok i = (i ≤ 4) × Collected (placeOk interfaces n) (leb n 4) i ok
+returns : tie.Need-returns
+unfolding openingOk allBelow
+returns c = simp (c .fourth-fits .ensures, c .before .third-fits .ensures, c .before .before .place-fits2 .ensures, c .before .before .before .pair-fits .ensures, c .before .before .before .before .place-fits .ensures)
 
-abbrev μ-loop : tie.MeasureT-loop
-μ-loop interfaces n ok₀ i₀ ok i = 4 - i
-
-loop-again : tie.Need-loop-again Inv-loop μ-loop
-loop-again c = (search needs, all-turn (c .before .before .loop .inv .1) (c .is-place .ensures))
-
-returns : tie.Need-returns Inv-loop μ-loop
-unfolding openingOk
-returns c = all-done (c .before .loop .inv .1) 4 (search needs) (search needs)
-
--- Inv-loop, μ-loop, loop-holds, is-place-requires, add-i, loop-less, loop-again, returns
+-- array-copy-out-w, array-copy-out-x, array-copy-out-y, array-copy-out-z, place-fits-requires, pair-fits-requires, place-fits-requires-2, third-fits-requires, fourth-fits-requires, returns
 pub are-accepted-spec : {M : Type 1} → statement M
 are-accepted-spec =
     tie.close
     (tie.spec
-    Inv-loop
-    μ-loop
-    (λ c. (search needs, all-start _ _))
+    (λ c. search needs)
+    (λ c. search needs)
+    (λ c. search needs)
+    (λ c. search needs)
     (λ c κs. search needs)
-    (λ c. search needs)
-    (λ c. search needs)
-    loop-again
+    (λ c κs. search needs)
+    (λ c κs. search needs)
+    (λ c κs. search needs)
+    (λ c κs. search needs)
     returns)

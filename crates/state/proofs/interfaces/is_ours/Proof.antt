@@ -4,6 +4,7 @@ use borrow.Author.Needs.{needs}
 use Rattle.state.proofs.interfaces.is_ours.Statement.{statement}
 use Rattle.state.proofs.interfaces.is_ours.Tie as tie
 
+-- is-loopback-requires, is-own-requires, returns
 pub is-ours-spec : {M : Type 1} → statement M
 is-ours-spec =
     tie.close

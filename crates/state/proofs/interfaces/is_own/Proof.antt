@@ -9,17 +9,14 @@ returns : tie.Need-returns
 unfolding own
 returns c = cc
 
--- array-copy-out-has, has-requires, array-copy-out-has-2, has-requires-2, array-copy-out-has-3, has-requires-3, array-copy-out-has-4, has-requires-4, returns
+-- array-copy-out-is-of, array-copy-out-is-of-2, array-copy-out-is-of-3, array-copy-out-is-of-4, is-of-requires, returns
 pub is-own-spec : {M : Type 1} → statement M
 is-own-spec =
     tie.close
     (tie.spec
     (λ c. search needs)
-    (λ c κs. search needs)
     (λ c. search needs)
-    (λ c κs. search needs)
     (λ c. search needs)
-    (λ c κs. search needs)
     (λ c. search needs)
     (λ c κs. search needs)
     returns)
