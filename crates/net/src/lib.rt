@@ -1,6 +1,6 @@
 // Ports, descriptors and interface ids are types of their own (000, 2.1). An address is a u32, the first of its four numbers highest.
 ghost use mathlib.Core.Path.{_≡_};
-ghost use Rattle.net.specs.Address.{loopback, martian, stray, agree};
+ghost use Rattle.net.specs.Address.{noFlow, loopback, martian, stray, agree};
 
 pub struct Port(pub u16);
 
@@ -14,6 +14,18 @@ pub struct Flow {
     pub dst: u32,
     pub sport: Port,
     pub dport: Port,
+}
+
+// The flow of nothing.
+pub fn no_flow() -> Flow
+    ensures { λ r. ⌜ r ≡ noFlow ⌝ }
+{
+    Flow {
+        src: 0,
+        dst: 0,
+        sport: Port(0),
+        dport: Port(0),
+    }
 }
 
 pub fn is_loopback(a: u32) -> bool

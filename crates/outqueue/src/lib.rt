@@ -1,6 +1,5 @@
 // The out-queue: items in the record, payloads in the lent store's last 16 slots (000, 2.3.18).
 use net::Flow;
-use net::Port;
 use state::Interface;
 use state::OutItem;
 ghost use mathlib.Core.Path.{_≡_};
@@ -23,12 +22,7 @@ fn no_item() -> OutItem
     ensures { λ r. ⌜ r ≡ noItem ⌝ }
 {
     OutItem {
-        flow: Flow {
-            src: 0,
-            dst: 0,
-            sport: Port(0),
-            dport: Port(0),
-        },
+        flow: net::no_flow(),
         len: 0,
         kind: 0,
     }

@@ -1,7 +1,6 @@
 // The sockets' queues: heads and counts in the record, payloads in the lent store. Nothing here is given a socket's ports.
 use net::Flow;
 use net::InterfaceId;
-use net::Port;
 use state::Queued;
 use state::Socket;
 ghost use mathlib.Core.Path.{_≡_};
@@ -23,12 +22,7 @@ fn no_head() -> Queued
     ensures { λ r. ⌜ r ≡ noHead ⌝ }
 {
     Queued {
-        flow: Flow {
-            src: 0,
-            dst: 0,
-            sport: Port(0),
-            dport: Port(0),
-        },
+        flow: net::no_flow(),
         len: 0,
         iface: InterfaceId(0),
     }

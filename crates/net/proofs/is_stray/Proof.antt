@@ -6,8 +6,4 @@ use Rattle.net.proofs.is_stray.Tie as tie
 
 pub is-stray-spec : {M : Type 1} → statement M
 is-stray-spec =
-    tie.close
-    (tie.spec
-    (λ c κs. search needs)
-    (λ c κs. search needs)
-    (λ c. cc))
+    tie.close (tie.spec (λ c κs. search needs) (λ c κs. search needs) (λ c. cc))

@@ -9,7 +9,4 @@ pub item-fits-spec : {M : Type 1} → statement M
 item-fits-spec =
     tie.close
     (tie.spec
-    (λ c κs. search needs)
-    (λ c κs. search needs)
-    (λ c. simp (c .before .if1 .taken, c .is-item .ensures))
-    (λ c. simp (c .before .if1 .left, c .is-empty-item .ensures)))
+    (λ c κs. search needs) (λ c κs. search needs) (λ c. simp (c .before .if1 .taken, c .is-item .ensures)) (λ c. simp (c .before .if1 .left, c .is-empty-item .ensures)))

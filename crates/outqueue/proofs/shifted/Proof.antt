@@ -27,24 +27,11 @@ returns c =
     let a = c .before .before .before in
     pop-done _ _ _ _ (omega (arith, a .good .0 .1 .0 .1, a .pre)) _ _ _ _ (c .before .before .loop .inv .1) (search needs) (search needs) (search needs) (c .no-item .ensures)
 
--- Inv-loop, μ-loop, loop-holds, sub-loop, add-x, mul-x, array-copy-out-x, mul-xs, array-set-from-xs, add-j, loop-less, loop-again, no-item-requires, mul-xs-2, array-set-from-xs-2, returns
+-- Inv-loop, μ-loop, loop-holds, sub-loop, add-x, mul-x, array-copy-out-x, mul-xs, array-set-from-xs, add-j, loop-less, loop-again, no-item-requires,
+-- mul-xs-2, array-set-from-xs-2, returns
 pub shifted-spec : {M : Type 1} → statement M
 shifted-spec =
     tie.close
     (tie.spec
-    Inv-loop
-    μ-loop
-    loop-holds
-    (λ c. search needs)
-    (λ c. search needs)
-    (λ c. search needs)
-    (λ c. search needs)
-    (λ c. search needs)
-    (λ c. search needs)
-    (λ c. search needs)
-    (λ c. search needs)
-    loop-again
-    (λ c κs. search needs)
-    (λ c. search needs)
-    (λ c. search needs)
-    returns)
+    Inv-loop μ-loop loop-holds (λ c. search needs) (λ c. search needs) (λ c. search needs) (λ c. search needs) (λ c. search needs) (λ c. search needs) (λ c. search needs)
+    (λ c. search needs) loop-again (λ c κs. search needs) (λ c. search needs) (λ c. search needs) returns)

@@ -7,7 +7,4 @@ use Rattle.outqueue.proofs.source.Tie as tie
 -- returns, returns-2
 pub source-spec : {M : Type 1} → statement M
 source-spec =
-    tie.close
-    (tie.spec
-    (λ c. simp (eq-eqb _ _ (c .if1 .taken)))
-    (λ c. simp (ne-eqb _ _ (c .if1 .left))))
+    tie.close (tie.spec (λ c. simp (eq-eqb _ _ (c .if1 .taken))) (λ c. simp (ne-eqb _ _ (c .if1 .left))))

@@ -7,10 +7,4 @@ use Rattle.queues.proofs.queue_fits.Tie as tie
 -- head-fits-requires, head-fits-requires-2, head-fits-requires-3, head-fits-requires-4, returns
 pub queue-fits-spec : {M : Type 1} → statement M
 queue-fits-spec =
-    tie.close
-    (tie.spec
-    (λ c κs. search needs)
-    (λ c κs. search needs)
-    (λ c κs. search needs)
-    (λ c κs. search needs)
-    (λ c. cc))
+    tie.close (tie.spec (λ c κs. search needs) (λ c κs. search needs) (λ c κs. search needs) (λ c κs. search needs) (λ c. cc))

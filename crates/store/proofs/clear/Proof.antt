@@ -20,13 +20,6 @@ pub clear-spec : {M : Type 1} → statement M
 clear-spec =
     tie.close
     (tie.spec
-    Inv-loop
-    μ-loop
-    (λ c. fill-start _ _ _ _ _ (length-copies _ _) (search needs))
-    (λ c. search needs)
-    (λ c. search needs)
-    (λ c. search needs)
-    (λ c. search needs)
-    (λ c. fill-turn (c .before .loop .inv) _ _ refl (search needs) (sym (getD-copies _ _ _ _ (search needs))))
-    (λ c. search needs)
+    Inv-loop μ-loop (λ c. fill-start _ _ _ _ _ (length-copies _ _) (search needs)) (λ c. search needs) (λ c. search needs) (λ c. search needs) (λ c. search needs)
+    (λ c. fill-turn (c .before .loop .inv) _ _ refl (search needs) (sym (getD-copies _ _ _ _ (search needs)))) (λ c. search needs)
     (λ c. fill-done (c .before .loop .inv) (search needs)))

@@ -19,14 +19,5 @@ pub put-spec : {M : Type 1} → statement M
 put-spec =
     tie.close
     (tie.spec
-    Inv-loop
-    μ-loop
-    (λ c. fill-start _ _ _ _ _ refl (search needs))
-    (λ c. search needs)
-    (λ c. search needs)
-    (λ c. search needs)
-    (λ c. search needs)
-    (λ c. search needs)
-    (λ c. fill-turn (c .before .before .loop .inv) _ _ refl (search needs) refl)
-    (λ c. search needs)
-    (λ c. fill-done (c .before .loop .inv) (search needs)))
+    Inv-loop μ-loop (λ c. fill-start _ _ _ _ _ refl (search needs)) (λ c. search needs) (λ c. search needs) (λ c. search needs) (λ c. search needs) (λ c. search needs)
+    (λ c. fill-turn (c .before .before .loop .inv) _ _ refl (search needs) refl) (λ c. search needs) (λ c. fill-done (c .before .loop .inv) (search needs)))

@@ -20,15 +20,7 @@ pub shift-spec : {M : Type 1} → statement M
 shift-spec =
     tie.close
     (tie.spec
-    Inv-loop
-    μ-loop
-    (λ c. fill-start _ _ _ _ _ (length-part _ _ _ (search needs)) (search needs))
-    (λ c. search needs)
-    (λ c. search needs)
-    (λ c. search needs)
-    (λ c. search needs)
-    (λ c. search needs)
-    (λ c. search needs)
+    Inv-loop μ-loop (λ c. fill-start _ _ _ _ _ (length-part _ _ _ (search needs)) (search needs)) (λ c. search needs) (λ c. search needs) (λ c. search needs) (λ c. search needs)
+    (λ c. search needs) (λ c. search needs)
     (λ c. let f = c .before .before .loop .inv in fill-turn f _ _ refl (search needs) (fill-ahead f _ (search needs) ∙ sym (getD-part _ _ _ _ _ (search needs))))
-    (λ c. search needs)
-    (λ c. fill-done (c .before .loop .inv) (search needs)))
+    (λ c. search needs) (λ c. fill-done (c .before .loop .inv) (search needs)))

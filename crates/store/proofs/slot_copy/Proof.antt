@@ -11,9 +11,5 @@ pub slot-copy-spec : {M : Type 1} → statement M
 slot-copy-spec =
     tie.close
     (tie.spec
-    (λ c κs. search needs)
-    (λ c. search needs)
-    (λ c. search needs)
-    (λ c κs. search needs)
-    (λ c. search needs)
+    (λ c κs. search needs) (λ c. search needs) (λ c. search needs) (λ c κs. search needs) (λ c. search needs)
     (λ c. copied _ _ _ _ (search needs) (search needs) (c .before .before .before .before .before .before .shift .ensures) refl (c .before .before .clear .ensures)))

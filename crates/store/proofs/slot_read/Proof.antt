@@ -18,12 +18,4 @@ returns c =
 -- add-put, sub-put, part-put-start, part-put-end, put-requires, same-length, returns
 pub slot-read-spec : {M : Type 1} → statement M
 slot-read-spec =
-    tie.close
-    (tie.spec
-    (λ c. search needs)
-    (λ c. search needs)
-    (λ c. search needs)
-    (λ c. search needs)
-    (λ c κs. search needs)
-    (λ c. search needs)
-    returns)
+    tie.close (tie.spec (λ c. search needs) (λ c. search needs) (λ c. search needs) (λ c. search needs) (λ c κs. search needs) (λ c. search needs) returns)

@@ -11,9 +11,5 @@ pub slot-write-spec : {M : Type 1} → statement M
 slot-write-spec =
     tie.close
     (tie.spec
-    (λ c κs. search needs)
-    (λ c. search needs)
-    (λ c. search needs)
-    (λ c κs. search needs)
-    (λ c. search needs)
+    (λ c κs. search needs) (λ c. search needs) (λ c. search needs) (λ c κs. search needs) (λ c. search needs)
     (λ c. splice-then _ _ _ _ (search needs) (c .before .before .before .before .before .before .put .ensures) refl (c .before .before .clear .ensures)))

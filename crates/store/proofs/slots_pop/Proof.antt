@@ -16,13 +16,4 @@ returns c =
 -- sub-rest, mul-rest, add-shift, shift-requires, add-clear, clear-requires, same-length, returns
 pub slots-pop-spec : {M : Type 1} → statement M
 slots-pop-spec =
-    tie.close
-    (tie.spec
-    (λ c. search needs)
-    (λ c. search needs)
-    (λ c. search needs)
-    (λ c κs. search needs)
-    (λ c. search needs)
-    (λ c κs. search needs)
-    (λ c. search needs)
-    returns)
+    tie.close (tie.spec (λ c. search needs) (λ c. search needs) (λ c. search needs) (λ c κs. search needs) (λ c. search needs) (λ c κs. search needs) (λ c. search needs) returns)

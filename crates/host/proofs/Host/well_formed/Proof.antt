@@ -9,16 +9,10 @@ returns : tie.Need-returns
 unfolding wellFormed
 returns c = cc
 
--- cast-are-accepted, are-accepted-requires, are-sockets-requires, are-apart-requires, are-queues-requires, are-items-requires, is-thread-requires, returns
+-- cast-are-accepted, are-accepted-requires, are-sockets-requires, are-apart-requires, are-queues-requires, are-items-requires, is-thread-requires,
+-- returns
 pub well-formed-spec : {M : Type 1} → statement M
 well-formed-spec =
     tie.close
     (tie.spec
-    (λ c. search needs)
-    (λ c κs. search needs)
-    (λ c κs. search needs)
-    (λ c κs. search needs)
-    (λ c κs. search needs)
-    (λ c κs. search needs)
-    (λ c κs. search needs)
-    returns)
+    (λ c. search needs) (λ c κs. search needs) (λ c κs. search needs) (λ c κs. search needs) (λ c κs. search needs) (λ c κs. search needs) (λ c κs. search needs) returns)

@@ -32,14 +32,4 @@ returns-2 c =
 -- Inv-loop, μ-loop, loop-holds, is-port-free-requires, returns, add-p, loop-less, loop-again, returns-2
 pub autobind-spec : {M : Type 1} → statement M
 autobind-spec =
-    tie.close
-    (tie.spec
-    Inv-loop
-    μ-loop
-    (λ c. seek-start _ _ _)
-    (λ c κs. search needs)
-    returns
-    (λ c. search needs)
-    (λ c. search needs)
-    loop-again
-    returns-2)
+    tie.close (tie.spec Inv-loop μ-loop (λ c. seek-start _ _ _) (λ c κs. search needs) returns (λ c. search needs) (λ c. search needs) loop-again returns-2)

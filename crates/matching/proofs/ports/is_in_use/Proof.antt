@@ -24,20 +24,11 @@ returns : tie.Need-returns Inv-loop μ-loop
 unfolding inUse
 returns c = ap not (all-done (c .before .loop .inv .1) 16 (search needs) (search needs))
 
--- Inv-loop, μ-loop, mul-reuse, element-copy-out-reuse, loop-holds, mul-is-leaving, array-copy-out-is-leaving, is-leaving-requires, add-j, loop-less, loop-again, returns
+-- Inv-loop, μ-loop, mul-reuse, element-copy-out-reuse, loop-holds, mul-is-leaving, array-copy-out-is-leaving, is-leaving-requires, add-j, loop-less,
+-- loop-again, returns
 pub is-in-use-spec : {M : Type 1} → statement M
 is-in-use-spec =
     tie.close
     (tie.spec
-    Inv-loop
-    μ-loop
-    (λ c. search needs)
-    (λ c. search needs)
-    (λ c. (search needs, all-start _ _))
-    (λ c. search needs)
-    (λ c. search needs)
-    (λ c κs. search needs)
-    (λ c. search needs)
-    (λ c. search needs)
-    loop-again
-    returns)
+    Inv-loop μ-loop (λ c. search needs) (λ c. search needs) (λ c. (search needs, all-start _ _)) (λ c. search needs) (λ c. search needs) (λ c κs. search needs) (λ c. search needs)
+    (λ c. search needs) loop-again returns)

@@ -10,10 +10,6 @@ pub source-spec : {M : Type 1} → statement M
 source-spec =
     tie.close
     (tie.spec
-    (λ c κs. search needs)
-    (λ c. source-loopback _ _ _ (c .before .is-loopback .ensures) (c .if1 .taken))
-    (λ c. source-none _ _ _ (c .before .before .is-loopback .ensures) (c .before .if1 .left) (c .if2 .taken))
-    (λ c κs. search needs)
-    (λ c. search needs)
-    (λ c. search needs)
+    (λ c κs. search needs) (λ c. source-loopback _ _ _ (c .before .is-loopback .ensures) (c .if1 .taken))
+    (λ c. source-none _ _ _ (c .before .before .is-loopback .ensures) (c .before .if1 .left) (c .if2 .taken)) (λ c κs. search needs) (λ c. search needs) (λ c. search needs)
     (λ c. source-via _ _ _ _ (c .before .before .before .before .is-loopback .ensures) (c .before .before .before .if1 .left) (c .before .before .if2 .left) (c .before .via .ensures .0)))

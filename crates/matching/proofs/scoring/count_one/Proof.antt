@@ -8,7 +8,4 @@ use Rattle.matching.proofs.scoring.count_one.Tie as tie
 -- returns, returns-2
 pub count-one-spec : {M : Type 1} → statement M
 count-one-spec =
-    tie.close
-    (tie.spec
-    (λ c. (simp (eq-eqb _ _ (c .if1 .taken)), omega arith))
-    (λ c. (simp (ne-eqb _ _ (c .if1 .left)), omega arith)))
+    tie.close (tie.spec (λ c. (simp (eq-eqb _ _ (c .if1 .taken)), omega arith)) (λ c. (simp (ne-eqb _ _ (c .if1 .left)), omega arith)))

@@ -12,18 +12,11 @@ returns c =
 returns-2 : tie.Need-returns-2
 returns-2 c = unscored _ _ (c .before .is-match .ensures) (c .if1 .left)
 
--- is-match-requires, count-one-requires, add-result, count-one-requires-2, add-result-2, cast-count-one, count-one-requires-3, add-result-3, returns, returns-2
+-- is-match-requires, count-one-requires, add-result, count-one-requires-2, add-result-2, cast-count-one, count-one-requires-3, add-result-3, returns,
+-- returns-2
 pub score-spec : {M : Type 1} → statement M
 score-spec =
     tie.close
     (tie.spec
-    (λ c κs. search needs)
-    (λ c κs. search needs)
-    (λ c. search needs)
-    (λ c κs. search needs)
-    (λ c. search needs)
-    (λ c. search needs)
-    (λ c κs. search needs)
-    (λ c. search needs)
-    returns
-    returns-2)
+    (λ c κs. search needs) (λ c κs. search needs) (λ c. search needs) (λ c κs. search needs) (λ c. search needs) (λ c. search needs) (λ c κs. search needs) (λ c. search needs)
+    returns returns-2)

@@ -9,10 +9,5 @@ pub add-notice-spec : {M : Type 1} → statement M
 add-notice-spec =
     tie.close
     (tie.spec
-    (λ c. search needs)
-    (λ c. search needs)
-    (λ c. search needs)
-    (λ c κs. search needs)
-    (λ c κs. search needs)
-    (λ c. search needs)
+    (λ c. search needs) (λ c. search needs) (λ c. search needs) (λ c κs. search needs) (λ c κs. search needs) (λ c. search needs)
     (λ c. simp (c .with-item .ensures, c .before .before .before .slot-zero .ensures)))

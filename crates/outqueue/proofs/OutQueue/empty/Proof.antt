@@ -13,7 +13,4 @@ returns c = rw (c .no-item .ensures)
 -- no-item-requires, returns
 pub empty-spec : {M : Type 1} → statement M
 empty-spec =
-    tie.close
-    (tie.spec
-    (λ c κs. search needs)
-    returns)
+    tie.close (tie.spec (λ c κs. search needs) returns)

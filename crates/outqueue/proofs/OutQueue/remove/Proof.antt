@@ -9,8 +9,4 @@ pub remove-spec : {M : Type 1} → statement M
 remove-spec =
     tie.close
     (tie.spec
-    (λ c. search needs)
-    (λ c κs. search needs)
-    (λ c κs. search needs)
-    (λ c. search needs)
-    (λ c. simp (c .without-first .ensures, c .before .before .before .slots-pop .ensures)))
+    (λ c. search needs) (λ c κs. search needs) (λ c κs. search needs) (λ c. search needs) (λ c. simp (c .without-first .ensures, c .before .before .before .slots-pop .ensures)))

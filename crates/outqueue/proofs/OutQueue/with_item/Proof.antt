@@ -13,10 +13,4 @@ returns c = refl
 -- cast-x, mul-x, element-set-from-x, add-q, returns
 pub with-item-spec : {M : Type 1} → statement M
 with-item-spec =
-    tie.close
-    (tie.spec
-    (λ c. search needs)
-    (λ c. search needs)
-    (λ c. search needs)
-    (λ c. search needs)
-    returns)
+    tie.close (tie.spec (λ c. search needs) (λ c. search needs) (λ c. search needs) (λ c. search needs) returns)

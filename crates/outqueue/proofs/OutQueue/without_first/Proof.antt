@@ -12,9 +12,4 @@ returns c = rw (c .shifted .ensures)
 -- cast-shifted, shifted-requires, sub-t6, returns
 pub without-first-spec : {M : Type 1} → statement M
 without-first-spec =
-    tie.close
-    (tie.spec
-    (λ c. search needs)
-    (λ c κs. search needs)
-    (λ c. search needs)
-    returns)
+    tie.close (tie.spec (λ c. search needs) (λ c κs. search needs) (λ c. search needs) returns)

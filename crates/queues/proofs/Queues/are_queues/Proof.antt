@@ -23,35 +23,15 @@ returns : tie.Need-returns Inv-loop μ-loop
 unfolding queuesOk
 returns c = all-done (c .before .loop .inv .1) 16 (search needs) (search needs)
 
--- Inv-loop, μ-loop, loop-holds, mul-live, element-copy-out-live, array-read-n, cast-n, mul-queue-fits, mul-queue-fits-2, array-copy-out-queue-fits, mul-queue-fits-3, add-queue-fits, mul-queue-fits-4, array-copy-out-queue-fits-2, mul-queue-fits-5, add-queue-fits-2, mul-queue-fits-6, array-copy-out-queue-fits-3, mul-queue-fits-7, add-queue-fits-3, mul-queue-fits-8, array-copy-out-queue-fits-4, queue-fits-requires, add-k, loop-less, loop-again, returns
+-- Inv-loop, μ-loop, loop-holds, mul-live, element-copy-out-live, array-read-n, cast-n, mul-queue-fits, mul-queue-fits-2, array-copy-out-queue-fits,
+-- mul-queue-fits-3, add-queue-fits, mul-queue-fits-4, array-copy-out-queue-fits-2, mul-queue-fits-5, add-queue-fits-2, mul-queue-fits-6,
+-- array-copy-out-queue-fits-3, mul-queue-fits-7, add-queue-fits-3, mul-queue-fits-8, array-copy-out-queue-fits-4, queue-fits-requires, add-k,
+-- loop-less, loop-again, returns
 pub are-queues-spec : {M : Type 1} → statement M
 are-queues-spec =
     tie.close
     (tie.spec
-    Inv-loop
-    μ-loop
-    (λ c. (search needs, all-start _ _))
-    (λ c. search needs)
-    (λ c. search needs)
-    (λ c. search needs)
-    (λ c. search needs)
-    (λ c. search needs)
-    (λ c. search needs)
-    (λ c. search needs)
-    (λ c. search needs)
-    (λ c. search needs)
-    (λ c. search needs)
-    (λ c. search needs)
-    (λ c. search needs)
-    (λ c. search needs)
-    (λ c. search needs)
-    (λ c. search needs)
-    (λ c. search needs)
-    (λ c. search needs)
-    (λ c. search needs)
-    (λ c. search needs)
-    (λ c κs. search needs)
-    (λ c. search needs)
-    (λ c. search needs)
-    loop-again
+    Inv-loop μ-loop (λ c. (search needs, all-start _ _)) (λ c. search needs) (λ c. search needs) (λ c. search needs) (λ c. search needs) (λ c. search needs) (λ c. search needs)
+    (λ c. search needs) (λ c. search needs) (λ c. search needs) (λ c. search needs) (λ c. search needs) (λ c. search needs) (λ c. search needs) (λ c. search needs)
+    (λ c. search needs) (λ c. search needs) (λ c. search needs) (λ c. search needs) (λ c. search needs) (λ c κs. search needs) (λ c. search needs) (λ c. search needs) loop-again
     returns)

@@ -15,29 +15,12 @@ returns c =
     let g : _≡_ {A = ℕ} (length (a .args .self .heads)) 64 = simp length-map at (a .good .0 .1 .1 .0 .1 .0 .1) in
     all-removed _ _ _ _ (omega (arith, a .pre)) (c .no-head .ensures) (c .before .before .before .clear .ensures)
 
--- mul-clear, clear-requires, no-head-requires, mul-z, mul-z-2, element-set-from-z, mul-z-3, add-z, mul-z-4, element-set-from-z-2, mul-z-5, add-z-2, mul-z-6, element-set-from-z-3, mul-z-7, add-z-3, mul-z-8, element-set-from-z-4, element-write-q, same-length, returns
+-- mul-clear, clear-requires, no-head-requires, mul-z, mul-z-2, element-set-from-z, mul-z-3, add-z, mul-z-4, element-set-from-z-2, mul-z-5, add-z-2,
+-- mul-z-6, element-set-from-z-3, mul-z-7, add-z-3, mul-z-8, element-set-from-z-4, element-write-q, same-length, returns
 pub clear-spec : {M : Type 1} → statement M
 clear-spec =
     tie.close
     (tie.spec
-    (λ c. search needs)
-    (λ c κs. search needs)
-    (λ c κs. search needs)
-    (λ c. search needs)
-    (λ c. search needs)
-    (λ c. search needs)
-    (λ c. search needs)
-    (λ c. search needs)
-    (λ c. search needs)
-    (λ c. search needs)
-    (λ c. search needs)
-    (λ c. search needs)
-    (λ c. search needs)
-    (λ c. search needs)
-    (λ c. search needs)
-    (λ c. search needs)
-    (λ c. search needs)
-    (λ c. search needs)
-    (λ c. search needs)
-    (λ c. search needs)
-    returns)
+    (λ c. search needs) (λ c κs. search needs) (λ c κs. search needs) (λ c. search needs) (λ c. search needs) (λ c. search needs) (λ c. search needs) (λ c. search needs)
+    (λ c. search needs) (λ c. search needs) (λ c. search needs) (λ c. search needs) (λ c. search needs) (λ c. search needs) (λ c. search needs) (λ c. search needs)
+    (λ c. search needs) (λ c. search needs) (λ c. search needs) (λ c. search needs) returns)

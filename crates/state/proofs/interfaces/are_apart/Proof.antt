@@ -13,10 +13,4 @@ returns c = cc
 -- is-lacking-requires, is-lacking-requires-2, is-lacking-requires-3, is-lacking-requires-4, returns
 pub are-apart-spec : {M : Type 1} → statement M
 are-apart-spec =
-    tie.close
-    (tie.spec
-    (λ c κs. search needs)
-    (λ c κs. search needs)
-    (λ c κs. search needs)
-    (λ c κs. search needs)
-    returns)
+    tie.close (tie.spec (λ c κs. search needs) (λ c κs. search needs) (λ c κs. search needs) (λ c κs. search needs) returns)

@@ -38,14 +38,4 @@ pub holder-spec : {M : Type 1} → statement M
 holder-spec =
     tie.close
     (tie.spec
-    Inv-loop
-    μ-loop
-    (λ c. seek-start _ _ _)
-    (λ c. search needs)
-    (λ c. search needs)
-    (λ c κs. search needs)
-    returns
-    (λ c. search needs)
-    (λ c. search needs)
-    loop-again
-    returns-2)
+    Inv-loop μ-loop (λ c. seek-start _ _ _) (λ c. search needs) (λ c. search needs) (λ c κs. search needs) returns (λ c. search needs) (λ c. search needs) loop-again returns-2)

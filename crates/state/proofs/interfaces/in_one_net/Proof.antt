@@ -13,10 +13,4 @@ returns c = cc
 -- is-member-requires, is-member-requires-2, is-member-requires-3, is-member-requires-4, returns
 pub in-one-net-spec : {M : Type 1} → statement M
 in-one-net-spec =
-    tie.close
-    (tie.spec
-    (λ c κs. search needs)
-    (λ c κs. search needs)
-    (λ c κs. search needs)
-    (λ c κs. search needs)
-    returns)
+    tie.close (tie.spec (λ c κs. search needs) (λ c κs. search needs) (λ c κs. search needs) (λ c κs. search needs) returns)

@@ -11,6 +11,4 @@ returns c = cc
 
 pub is-addressed-spec : {M : Type 1} → statement M
 is-addressed-spec =
-    tie.close
-    (tie.spec
-    returns)
+    tie.close (tie.spec returns)

@@ -11,6 +11,4 @@ returns c = cc
 
 pub is-distinct-spec : {M : Type 1} → statement M
 is-distinct-spec =
-    tie.close
-    (tie.spec
-    returns)
+    tie.close (tie.spec returns)

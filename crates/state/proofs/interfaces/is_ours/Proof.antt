@@ -7,8 +7,4 @@ use Rattle.state.proofs.interfaces.is_ours.Tie as tie
 -- is-loopback-requires, is-own-requires, returns
 pub is-ours-spec : {M : Type 1} → statement M
 is-ours-spec =
-    tie.close
-    (tie.spec
-    (λ c κs. search needs)
-    (λ c κs. search needs)
-    (λ c. cc))
+    tie.close (tie.spec (λ c κs. search needs) (λ c κs. search needs) (λ c. cc))

@@ -12,11 +12,4 @@ returns c = cc
 -- array-copy-out-is-of, array-copy-out-is-of-2, array-copy-out-is-of-3, array-copy-out-is-of-4, is-of-requires, returns
 pub is-own-spec : {M : Type 1} → statement M
 is-own-spec =
-    tie.close
-    (tie.spec
-    (λ c. search needs)
-    (λ c. search needs)
-    (λ c. search needs)
-    (λ c. search needs)
-    (λ c κs. search needs)
-    returns)
+    tie.close (tie.spec (λ c. search needs) (λ c. search needs) (λ c. search needs) (λ c. search needs) (λ c κs. search needs) returns)

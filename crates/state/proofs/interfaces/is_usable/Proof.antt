@@ -13,10 +13,4 @@ returns c = cc
 -- is-acceptable-requires, is-acceptable-requires-2, is-acceptable-requires-3, is-acceptable-requires-4, returns
 pub is-usable-spec : {M : Type 1} → statement M
 is-usable-spec =
-    tie.close
-    (tie.spec
-    (λ c κs. search needs)
-    (λ c κs. search needs)
-    (λ c κs. search needs)
-    (λ c κs. search needs)
-    returns)
+    tie.close (tie.spec (λ c κs. search needs) (λ c κs. search needs) (λ c κs. search needs) (λ c κs. search needs) returns)

@@ -36,27 +36,11 @@ returns : tie.Need-returns Inv-loop2 μ-loop2 Inv-loop μ-loop
 unfolding allApart
 returns c = all-done (c .before .loop .inv .1) 16 (search needs) (search needs)
 
--- Inv-loop2, μ-loop2, Inv-loop, μ-loop, loop-holds, mul-s, array-copy-out-s, peers-requires, loop2-holds, mul-are-compatible, array-copy-out-are-compatible, are-compatible-requires, add-j, loop2-less, loop2-again, add-k, loop-less, loop-again, returns
+-- Inv-loop2, μ-loop2, Inv-loop, μ-loop, loop-holds, mul-s, array-copy-out-s, peers-requires, loop2-holds, mul-are-compatible,
+-- array-copy-out-are-compatible, are-compatible-requires, add-j, loop2-less, loop2-again, add-k, loop-less, loop-again, returns
 pub are-apart-spec : {M : Type 1} → statement M
 are-apart-spec =
     tie.close
     (tie.spec
-    Inv-loop2
-    μ-loop2
-    Inv-loop
-    μ-loop
-    (λ c. (search needs, all-start _ _))
-    (λ c. search needs)
-    (λ c. search needs)
-    (λ c κs. search needs)
-    (λ c. (search needs, all-start _ _))
-    (λ c. search needs)
-    (λ c. search needs)
-    (λ c κs. search needs)
-    (λ c. search needs)
-    (λ c. search needs)
-    loop2-again
-    (λ c. search needs)
-    (λ c. search needs)
-    loop-again
-    returns)
+    Inv-loop2 μ-loop2 Inv-loop μ-loop (λ c. (search needs, all-start _ _)) (λ c. search needs) (λ c. search needs) (λ c κs. search needs) (λ c. (search needs, all-start _ _))
+    (λ c. search needs) (λ c. search needs) (λ c κs. search needs) (λ c. search needs) (λ c. search needs) loop2-again (λ c. search needs) (λ c. search needs) loop-again returns)

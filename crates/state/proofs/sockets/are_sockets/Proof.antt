@@ -22,23 +22,11 @@ returns : tie.Need-returns Inv-loop μ-loop
 unfolding socketsOk localKnown
 returns c = all-done (c .before .loop .inv .1) 16 (search needs) (search needs)
 
--- Inv-loop, μ-loop, array-copy-out-w, array-copy-out-x, array-copy-out-y, array-copy-out-z, loop-holds, mul-s, array-copy-out-s, is-local-known-requires, is-socket-requires, add-k, loop-less, loop-again, returns
+-- Inv-loop, μ-loop, array-copy-out-w, array-copy-out-x, array-copy-out-y, array-copy-out-z, loop-holds, mul-s, array-copy-out-s,
+-- is-local-known-requires, is-socket-requires, add-k, loop-less, loop-again, returns
 pub are-sockets-spec : {M : Type 1} → statement M
 are-sockets-spec =
     tie.close
     (tie.spec
-    Inv-loop
-    μ-loop
-    (λ c. search needs)
-    (λ c. search needs)
-    (λ c. search needs)
-    (λ c. search needs)
-    (λ c. (search needs, all-start _ _))
-    (λ c. search needs)
-    (λ c. search needs)
-    (λ c κs. search needs)
-    (λ c κs. search needs)
-    (λ c. search needs)
-    (λ c. search needs)
-    loop-again
-    returns)
+    Inv-loop μ-loop (λ c. search needs) (λ c. search needs) (λ c. search needs) (λ c. search needs) (λ c. (search needs, all-start _ _)) (λ c. search needs) (λ c. search needs)
+    (λ c κs. search needs) (λ c κs. search needs) (λ c. search needs) (λ c. search needs) loop-again returns)

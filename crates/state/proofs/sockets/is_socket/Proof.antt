@@ -9,8 +9,5 @@ pub is-socket-spec : {M : Type 1} → statement M
 is-socket-spec =
     tie.close
     (tie.spec
-    (λ c κs. search needs)
-    (λ c κs. search needs)
-    (λ c κs. search needs)
-    (λ c. simp (c .before .before .if1 .taken, c .before .is-chained .ensures, c .is-error-known .ensures))
+    (λ c κs. search needs) (λ c κs. search needs) (λ c κs. search needs) (λ c. simp (c .before .before .if1 .taken, c .before .is-chained .ensures, c .is-error-known .ensures))
     (λ c. simp (c .before .if1 .left, c .is-blank .ensures)))

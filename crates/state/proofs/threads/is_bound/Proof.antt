@@ -17,9 +17,4 @@ returns-2 c = simp (le-ltb _ _ (c .if1 .left))
 -- mul-s, array-copy-out-s, returns, returns-2
 pub is-bound-spec : {M : Type 1} → statement M
 is-bound-spec =
-    tie.close
-    (tie.spec
-    (λ c. search needs)
-    (λ c. search needs)
-    returns
-    returns-2)
+    tie.close (tie.spec (λ c. search needs) (λ c. search needs) returns returns-2)

@@ -20,13 +20,4 @@ returns-3 c = cc
 -- enum-told, enum-known-t, cast-is-bound, is-bound-requires, enum-told-2, returns, returns-2, returns-3
 pub is-thread-spec : {M : Type 1} → statement M
 is-thread-spec =
-    tie.close
-    (tie.spec
-    (λ c. search needs)
-    (λ c. search needs)
-    (λ c. search needs)
-    (λ c κs. search needs)
-    (λ c. search needs)
-    returns
-    returns-2
-    returns-3)
+    tie.close (tie.spec (λ c. search needs) (λ c. search needs) (λ c. search needs) (λ c κs. search needs) (λ c. search needs) returns returns-2 returns-3)
