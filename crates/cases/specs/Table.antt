@@ -1,7 +1,7 @@
 -- Every case marked P in document 01 that speaks of addresses, scores, overlap and ports: what is computed beside what it has to be
 use Prim.Native.Nat.{ℕ}
 use mathlib.Core.List.{List, [], _∷_}
-use mathlib.Core.Bool.{Bool, true, _&&_, cond}
+use mathlib.Core.Bool.{Bool, true, false, _&&_, cond}
 use lib.Dec.{eqb}
 use Rattle.net.specs.Address.{loopback, martian}
 use Rattle.net.specs.declared.Flow.{Flow}
@@ -53,8 +53,8 @@ table =
     (yes (loopback (ip 127 0 0 0)), 1) ∷
     (yes (loopback (ip 128 0 0 0)), 0) ∷
     -- without reuse, wildcard:7000 then 10.2.0.5:7000 is in use; 10.2.0.5:7000 then 127.0.0.1:7000 is not
-    (yes (inUse (bound 0 7000) 1 (ip 10 2 0 5) 7000), 1) ∷
-    (yes (inUse (bound (ip 10 2 0 5) 7000) 1 (ip 127 0 0 1) 7000), 0) ∷
+    (yes (inUse (bound 0 7000) 1 false (ip 10 2 0 5) 7000), 1) ∷
+    (yes (inUse (bound (ip 10 2 0 5) 7000) 1 false (ip 127 0 0 1) 7000), 0) ∷
     -- first autobind 1024; with 1024 taken, 1025
     (autoPort four, 1024) ∷
     (autoPort (bound (ip 10 2 0 5) 1024), 1025) ∷ []

@@ -1,11 +1,31 @@
-// The host's record: what each step takes by value and gives back.
+// The host's record, what a step gives back, and the checks that every step begins with. The calls stand in the modules.
+use net::Descriptor;
+use net::Port;
 use outqueue::OutQueue;
 use queues::Queues;
 use state::Interface;
+use state::OutItem;
+use state::Queued;
 use state::Socket;
 use state::Thread;
 ghost use mathlib.Core.Path.{_≡_};
-ghost use Rattle.host.specs.Form.{wellFormed};
+ghost use mathlib.Core.Bool.{cond};
+ghost use Rattle.state.specs.Places.{socketIn};
+ghost use Rattle.host.specs.Form.{wellFormed, countAt};
+ghost use Rattle.host.specs.Answers.{plain, told, named, valued, needing, readOf};
+ghost use Rattle.host.specs.Moves.{withSocket, withQueues, withOut, withThread};
+ghost use Rattle.host.specs.Naming.{sourceFor};
+ghost use Rattle.host.specs.Options.{withoutError};
+ghost use Rattle.host.specs.Sending.{autobound};
+ghost use Rattle.host.specs.Tables.{firstOr, aliveRows, entryRows, callRows};
+
+pub mod closing;
+pub mod naming;
+pub mod opening;
+pub mod options;
+pub mod polling;
+pub mod reading;
+pub mod sending;
 
 pub struct Host {
     pub interfaces: [Interface; 4],
@@ -14,6 +34,111 @@ pub struct Host {
     pub out: OutQueue,
     pub thread: Thread,
     pub icount: u8,
+}
+
+// Document 01's number, and what some answers give; a field that an answer does not use is 0.
+pub struct Answer {
+    pub item: OutItem,
+    pub address: u32,
+    pub port: Port,
+    pub len: u16,
+    pub readable: u16,
+    pub writable: u16,
+    pub number: u8,
+    pub descriptor: Descriptor,
+    pub value: u8,
+}
+
+pub struct Stepped {
+    pub host: Host,
+    pub answer: Answer,
+}
+
+// ---- answers
+
+fn numbered(n: u8) -> Answer
+    ensures { λ r. ⌜ r ≡ plain n ⌝ }
+{
+    Answer {
+        item: OutItem {
+            flow: net::no_flow(),
+            len: 0,
+            kind: 0,
+        },
+        address: 0,
+        port: Port(0),
+        len: 0,
+        readable: 0,
+        writable: 0,
+        number: n,
+        descriptor: Descriptor(0),
+        value: 0,
+    }
+}
+
+fn with_descriptor(n: u8, k: u8) -> Answer
+    ensures { λ r. ⌜ r ≡ told n k ⌝ }
+{
+    let mut a = numbered(n);
+    let d = Descriptor(k);
+    a.descriptor = d;
+    a
+}
+
+fn with_pair(address: u32, port: Port) -> Answer
+    ensures { λ r. ⌜ r ≡ named address port ⌝ }
+{
+    let mut a = numbered(0);
+    a.address = address;
+    a.port = port;
+    a
+}
+
+fn with_value(v: u8) -> Answer
+    ensures { λ r. ⌜ r ≡ valued v ⌝ }
+{
+    let mut a = numbered(0);
+    a.value = v;
+    a
+}
+
+fn with_need(len: u16) -> Answer
+    ensures { λ r. ⌜ r ≡ needing len ⌝ }
+{
+    let mut a = numbered(16);
+    a.len = len;
+    a
+}
+
+fn from_sender(h: Queued) -> Answer
+    ensures { λ r. ⌜ r ≡ readOf h ⌝ }
+{
+    let mut a = numbered(0);
+    a.address = h.flow.src;
+    let port = h.flow.sport;
+    a.port = port;
+    a.len = h.len;
+    a
+}
+
+// ---- the checks that steps begin with
+
+// A row of a table of refusals: n where c holds, else what the rows below say.
+fn row(c: bool, n: u8, rest: u8) -> u8
+    ensures { λ r. ⌜ r ≡ cond c n rest ⌝ }
+{
+    if c { n } else { rest }
+}
+
+// Socket k; a closed one where there is no such descriptor.
+fn socket_at(sockets: [Socket; 16], k: usize) -> Socket
+    ensures { λ r. ⌜ r ≡ socketIn sockets k ⌝ }
+{
+    if k < 16 {
+        sockets[k]
+    } else {
+        binding::no_socket()
+    }
 }
 
 impl Host {
@@ -32,5 +157,117 @@ impl Host {
             & queues.are_queues(sockets)
             & out.are_items(interfaces)
             & state::threads::is_thread(sockets, thread)
+    }
+
+    // s as socket k; nothing changes where there is no such descriptor.
+    fn with_socket(self, k: usize, s: Socket) -> Host
+        ensures { λ r. ⌜ r ≡ withSocket self k s ⌝ }
+    {
+        let mut h = self;
+        if k < 16 {
+            h.sockets[k] = s;
+            return h;
+        }
+        h
+    }
+
+    // Socket k without its pending error.
+    fn without_error(self, k: usize) -> Host
+        ensures { λ r. ⌜ r ≡ withoutError self k ⌝ }
+    {
+        let sockets = self.sockets;
+        let s = socket_at(sockets, k);
+        self.with_socket(k, binding::with_error(s, 0))
+    }
+
+    // Socket k with a local port, autobound if it has none.
+    fn autobound(self, k: usize) -> Host
+        ensures { λ r. ⌜ r ≡ autobound self k ⌝ }
+    {
+        let sockets = self.sockets;
+        let s = socket_at(sockets, k);
+        let local = s.lport;
+        let p = binding::port_for(sockets, local);
+        self.with_socket(k, binding::with_local(s, s.laddr, p))
+    }
+
+    // How many datagrams socket k holds; none where there is no such descriptor.
+    fn held_by(self, k: usize) -> u8
+        ensures { λ r. ⌜ r ≡ countAt self k ⌝ }
+    {
+        let counts = self.queues.counts;
+        if k < 16 { counts[k] } else { 0 }
+    }
+
+    // The socket's local address, or the route's source to dst where that is absent; 0 where there is none.
+    fn source_for(self, s: Socket, dst: u32) -> u32
+        ensures { λ r. ⌜ r ≡ sourceFor self s dst ⌝ }
+    {
+        let interfaces = self.interfaces;
+        if s.laddr == 0 {
+            return matching::routes::source(interfaces, self.icount as usize, dst);
+        }
+        s.laddr
+    }
+
+    fn with_queues(self, q: Queues) -> Host
+        ensures { λ r. ⌜ r ≡ withQueues self q ⌝ }
+    {
+        let mut h = self;
+        h.queues = q;
+        h
+    }
+
+    fn with_out(self, o: OutQueue) -> Host
+        ensures { λ r. ⌜ r ≡ withOut self o ⌝ }
+    {
+        let mut h = self;
+        h.out = o;
+        h
+    }
+
+    fn with_thread(self, t: Thread) -> Host
+        ensures { λ r. ⌜ r ≡ withThread self t ⌝ }
+    {
+        let interfaces = self.interfaces;
+        let sockets = self.sockets;
+        let queues = self.queues;
+        let out = self.out;
+        Host {
+            interfaces,
+            sockets,
+            queues,
+            out,
+            thread: t,
+            icount: self.icount,
+        }
+    }
+
+    // Rows 1 to 3, then the step's own.
+    fn alive_rows(self, room: usize, rest: u8) -> u8
+        ensures { λ r. ⌜ r ≡ firstOr (aliveRows self room) rest ⌝ }
+    {
+        let t = self.thread;
+        row(
+            !self.well_formed(),
+            1,
+            row(room != 40960, 2, row(state::threads::is_ended(t), 3, rest)),
+        )
+    }
+
+    // Rows 1 to 4, then the step's own.
+    fn entry_rows(self, room: usize, rest: u8) -> u8
+        ensures { λ r. ⌜ r ≡ firstOr (entryRows self room) rest ⌝ }
+    {
+        let t = self.thread;
+        self.alive_rows(room, row(state::threads::is_waiting(t), 4, rest))
+    }
+
+    // Rows 1 to 5, then the step's own.
+    fn call_rows(self, room: usize, k: usize, rest: u8) -> u8
+        ensures { λ r. ⌜ r ≡ firstOr (callRows self room k) rest ⌝ }
+    {
+        let sockets = self.sockets;
+        self.entry_rows(room, row(!state::sockets::is_open(sockets, k), 5, rest))
     }
 }

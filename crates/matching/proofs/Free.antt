@@ -1,4 +1,4 @@
--- Ports: a pair that is not in use may be bound, and autobind always finds a port: n sockets cannot have all of n + 1.
+-- Ports: what "not in use" says, and autobind always finds a port: n sockets cannot have all of n + 1.
 -- Assumes nothing.
 use mathlib.Core.Path.{_≡_, refl, sym, ap, _∙_}
 use mathlib.Core.List.{List}
@@ -34,9 +34,9 @@ takes-is s reuse a p =
     (λ w. (((w .live, w .port), w .overlaps), w .unshared))
 
 -- not in use: no other socket takes it
-pub unused-is : (ks : List Socket) (k a p : ℕ) → Fails (inUse ks k a p) ((j : ℕ) → j < 16 → j ≢ k → Takes (socketIn ks j) (socketIn ks k .reuse) a p → ⊥)
+pub unused-is : (ks : List Socket) (k : ℕ) (reuse : Bool) (a p : ℕ) → Fails (inUse ks k reuse a p) ((j : ℕ) → j < 16 → j ≢ k → Takes (socketIn ks j) reuse a p → ⊥)
 unfolding inUse
-unused-is ks k a p = f-not (d-all (λ j l. d-unless (f-eq j k) (d-not (f-absurd (takes-is (socketIn ks j) (socketIn ks k .reuse) a p)))))
+unused-is ks k reuse a p = f-not (d-all (λ j l. d-unless (f-eq j k) (d-not (f-absurd (takes-is (socketIn ks j) reuse a p)))))
 
 -- ---- among n + 1 numbers one is none of n
 

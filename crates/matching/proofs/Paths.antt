@@ -7,7 +7,7 @@ use mathlib.Core.Bool.{Bool, true, false}
 use Prim.Native.Nat.{ℕ, _+_, _<_, _≤_}
 use native.Mathlib.Omega.{arith}
 use lib.Dec.{ltb}
-use borrow.Author.Tests.{eq-eqb, ne-eqb, lt-ltb, le-ltb, ltb-true}
+use borrow.Author.Tests.{eq-eqb, ne-eqb, lt-ltb, le-ltb, le-leb, ltb-true}
 use Rattle.laws.proofs.Numbers.{side, same-or-not}
 use Rattle.laws.proofs.Tests.{two, not-both, or-one, or-two, cond-cases}
 use Rattle.laws.proofs.Below.{lowest-upto, lowest-passes, lowest-least, lowest-before}
@@ -17,7 +17,7 @@ use Rattle.state.specs.Places.{interfaceIn}
 use Rattle.state.specs.Interfaces.{own, ours}
 use Rattle.state.specs.Plain.{Opened}
 use Rattle.state.proofs.Own.{primary-own}
-use Rattle.matching.specs.Routes.{reaches, firstReaching, routeVia, routeSource}
+use Rattle.matching.specs.Routes.{reaches, firstReaching, routeVia, fourOf, routeSource}
 
 -- ---- as it is computed
 
@@ -29,20 +29,26 @@ pub via-none : (is : List Interface) (n dst : ℕ) → firstReaching is n dst �
 unfolding routeVia
 via-none is n dst e = let q : n ≤ firstReaching is n dst = omega arith in simp (le-ltb (firstReaching is n dst) n q)
 
-module _ (is : List Interface) (n dst : ℕ) {m : Bool} where
-  pub source-loopback : m ≡ loopback dst → m ≡ true → localhost ≡ routeSource is n dst
-  unfolding routeSource
-  source-loopback e t = let q : loopback dst ≡ true = sym e ∙ t in simp q
-
-  pub source-none : m ≡ loopback dst → m ≡ false → n ≡ 0 → 0 ≡ routeSource is n dst
-  unfolding routeSource
-  source-none e t z = let q : loopback dst ≡ false = sym e ∙ t in simp (q, eq-eqb n 0 z)
-
-pub source-via : (is : List Interface) (n dst i : ℕ) {m : Bool} → m ≡ loopback dst → m ≡ false → n ≢ 0 → i ≡ routeVia is n dst → interfaceIn is i .first ≡ routeSource is n dst
+pub source-loopback : (is : List Interface) (n dst : ℕ) {m : Bool} → m ≡ loopback dst → m ≡ true → localhost ≡ routeSource is n dst
 unfolding routeSource
-source-via is n dst i e t d v = let q : loopback dst ≡ false = sym e ∙ t in simp (q, ne-eqb n 0 d) (ap (λ (j : ℕ). interfaceIn is j .first) v)
+source-loopback is n dst e t = let q : loopback dst ≡ true = sym e ∙ t in simp q
 
--- ---- the theorem: document 01's four cases
+pub source-none : (is : List Interface) (n dst : ℕ) {m : Bool} {u : ℕ} → m ≡ loopback dst → m ≡ false → u ≡ fourOf n → u ≡ 0 → 0 ≡ routeSource is n dst
+unfolding routeSource
+source-none is n dst e t f z = let q : loopback dst ≡ false = sym e ∙ t in simp (q, eq-eqb (fourOf n) 0 (sym f ∙ z))
+
+pub source-via : (is : List Interface) (n dst i : ℕ) {m : Bool} {u : ℕ} → m ≡ loopback dst → m ≡ false → u ≡ fourOf n → u ≢ 0 → i ≡ routeVia is u dst
+    → interfaceIn is i .first ≡ routeSource is n dst
+unfolding routeSource
+source-via is n dst i {m} {u} e t f d v =
+    let q : loopback dst ≡ false = sym e ∙ t in
+    let w : fourOf n ≢ 0 = λ z. d (f ∙ z) in
+    simp (q, ne-eqb (fourOf n) 0 w) (ap (λ (j : ℕ). interfaceIn is j .first) (v ∙ ap (λ (x : ℕ). routeVia is x dst) f))
+
+four-is : (n : ℕ) → n ≤ 4 → fourOf n ≡ n
+four-is n l = simp (le-leb n 4 l)
+
+-- ---- the theorem: document 01's four cases, of at most 4 interfaces
 
 pub record Route (is : List Interface) (n dst : ℕ) (a : ℕ) : Type 0 where
   -- destination in LOOPBACK: 127.0.0.1
@@ -67,13 +73,14 @@ none-reaches is n dst none =
     let upto = lowest-upto f n 0 in
     ⊎-elim (λ (w : firstReaching is n dst < n). not-both (lowest-passes f n 0 (omega arith)) (none _ w)) (λ (w : n ≤ firstReaching is n dst). omega arith) (side (firstReaching is n dst) n)
 
-pub route-is : (is : List Interface) (n dst : ℕ) → Route is n dst (routeSource is n dst)
-route-is is n dst =
+pub route-is : (is : List Interface) (n dst : ℕ) → n ≤ 4 → Route is n dst (routeSource is n dst)
+route-is is n dst few =
+    let f : n ≡ fourOf n = sym (four-is n few) in
     record {
       inside = λ e. sym (source-loopback is n dst refl e);
-      agreeing = λ e i l r less. sym (source-via is n dst i refl e (λ z. omega arith) (via-found is n dst i l (first-is is n dst i l r less)));
-      else-first = λ e d none. sym (source-via is n dst 0 refl e d (via-none is n dst (none-reaches is n dst none)));
-      none = λ e z. sym (source-none is n dst refl e z);
+      agreeing = λ e i l r less. sym (source-via is n dst i refl e f (λ z. omega arith) (via-found is n dst i l (first-is is n dst i l r less)));
+      else-first = λ e d none. sym (source-via is n dst 0 refl e f d (via-none is n dst (none-reaches is n dst none)));
+      none = λ e z. sym (source-none is n dst refl e f z);
     }
 
 -- ---- where the interfaces are accepted, a source is our own
@@ -85,11 +92,12 @@ via-small is n dst d =
 
 pub source-ours : {is : List Interface} {n : ℕ} → Opened is n → (dst : ℕ) → routeSource is n dst ≢ 0 → ours is (routeSource is n dst) ≡ true
 source-ours {is} {n} o dst d =
+    let f : n ≡ fourOf n = sym (four-is n (o .few)) in
     ⊎-elim
     (λ (e : loopback dst ≡ true). let q = source-loopback is n dst refl e in rw (sym q) refl)
     (λ (e : loopback dst ≡ false). ⊎-elim
-    (λ (z : n ≡ 0). absurd (d (sym (source-none is n dst refl e z))))
-    (λ (z : n ≢ 0). let q = source-via is n dst (routeVia is n dst) refl e z refl in
+    (λ (z : n ≡ 0). absurd (d (sym (source-none is n dst refl e f z))))
+    (λ (z : n ≢ 0). let q = source-via is n dst (routeVia is n dst) refl e f z refl in
     or-two (loopback (routeSource is n dst)) (own is (routeSource is n dst)) (ap (own is) (sym q) ∙ primary-own o (routeVia is n dst) (via-small is n dst z)))
     (same-or-not n 0))
     (two (loopback dst))

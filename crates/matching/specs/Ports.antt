@@ -16,9 +16,9 @@ takes s reuse a p = s .live && eqb (s .lport .0) p && overlap (s .laddr) a && no
 abbrev pub leaves : Socket → Bool → Bool → ℕ → ℕ → Bool
 leaves s itself reuse a p = itself || not (takes s reuse a p)
 
--- another open socket keeps socket k off the pair
-unfoldable pub inUse : List Socket → ℕ → ℕ → ℕ → Bool
-inUse ks k a p = not (allBelow (λ j. leaves (socketIn ks j) (eqb j k) (socketIn ks k .reuse) a p) 16)
+-- another open socket keeps socket k, which has this reuse, off the pair
+unfoldable pub inUse : List Socket → ℕ → Bool → ℕ → ℕ → Bool
+inUse ks k reuse a p = not (allBelow (λ j. leaves (socketIn ks j) (eqb j k) reuse a p) 16)
 
 abbrev pub lacksPort : Socket → ℕ → Bool
 lacksPort s p = not (eqb (s .lport .0) p)

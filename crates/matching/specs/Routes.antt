@@ -2,7 +2,7 @@
 use Prim.Native.Nat.{ℕ}
 use mathlib.Core.List.{List}
 use mathlib.Core.Bool.{Bool, cond}
-use lib.Dec.{ltb, eqb}
+use lib.Dec.{ltb, leb, eqb}
 use Rattle.laws.specs.Below.{lowest}
 use Rattle.net.specs.Address.{loopback, agree, localhost}
 use Rattle.state.specs.declared.Interface.{Interface}
@@ -20,6 +20,14 @@ firstReaching is n dst = lowest (λ i. reaches (interfaceIn is i) dst) n 0
 unfoldable pub routeVia : List Interface → ℕ → ℕ → ℕ
 routeVia is n dst = cond (ltb (firstReaching is n dst) n) (firstReaching is n dst) 0
 
--- destination in LOOPBACK, 127.0.0.1; with no interface, none (0)
+-- an array of 4 has no more than 4 in use, whatever the count says
+abbrev pub fourOf : ℕ → ℕ
+fourOf n = cond (leb n 4) n 4
+
+-- the primary of that interface; with no interface, none (0)
+abbrev pub sourceAmong : List Interface → ℕ → ℕ → ℕ
+sourceAmong is n dst = cond (eqb n 0) 0 (interfaceIn is (routeVia is n dst) .first)
+
+-- destination in LOOPBACK, 127.0.0.1
 unfoldable pub routeSource : List Interface → ℕ → ℕ → ℕ
-routeSource is n dst = cond (loopback dst) localhost (cond (eqb n 0) 0 (interfaceIn is (routeVia is n dst) .first))
+routeSource is n dst = cond (loopback dst) localhost (sourceAmong is (fourOf n) dst)

@@ -2,7 +2,6 @@
 use net::Port;
 use state::Socket;
 ghost use mathlib.Core.Path.{_≡_};
-ghost use Prim.Native.Nat.{_<_};
 ghost use Rattle.matching.specs.Ports.{takes, leaves, inUse, lacksPort, portFree, autoPort};
 
 // The socket s keeps a socket with this reuse off the pair of address and port.
@@ -19,12 +18,10 @@ fn is_leaving(s: Socket, itself: bool, reuse: bool, a: u32, p: Port) -> bool
     itself | !is_taking(s, reuse, a, p)
 }
 
-// Another open socket has that port, overlapping addresses, and not both have reuse.
-pub fn is_in_use(sockets: [Socket; 16], k: usize, a: u32, p: Port) -> bool
-    requires { ⌜ k < 16 ⌝ }
-    ensures { λ r. ⌜ r ≡ inUse sockets k a (p .0) ⌝ }
+// Another open socket than k, which has this reuse, has that port, overlapping addresses, and not both have reuse.
+pub fn is_in_use(sockets: [Socket; 16], k: usize, reuse: bool, a: u32, p: Port) -> bool
+    ensures { λ r. ⌜ r ≡ inUse sockets k reuse a (p .0) ⌝ }
 {
-    let reuse = sockets[k].reuse;
     let mut ok = true;
     for j in 0..16 {
         ok = ok & is_leaving(sockets[j], j == k, reuse, a, p);

@@ -2,7 +2,7 @@
 use state::Interface;
 ghost use mathlib.Core.Path.{_≡_};
 ghost use Prim.Native.Nat.{_≤_};
-ghost use Rattle.matching.specs.Routes.{reaches, routeVia, routeSource};
+ghost use Rattle.matching.specs.Routes.{reaches, routeVia, fourOf, routeSource};
 
 fn is_reaching(x: Interface, dst: u32) -> bool
     ensures { λ r. ⌜ r ≡ reaches x dst ⌝ }
@@ -25,18 +25,25 @@ fn via(interfaces: [Interface; 4], n: usize, dst: u32) -> usize
     0
 }
 
+// An array of 4 has no more than 4 in use, whatever the count says.
+fn at_most_four(n: usize) -> usize
+    ensures { λ r. ⌜ (r ≡ fourOf n) × (r ≤ 4) ⌝ }
+{
+    if n <= 4 { n } else { 4 }
+}
+
 // 127.0.0.1 for loopback; else that interface's primary; 0 where there is no interface.
 pub fn source(interfaces: [Interface; 4], n: usize, dst: u32) -> u32
-    requires { ⌜ n ≤ 4 ⌝ }
     ensures { λ r. ⌜ r ≡ routeSource interfaces n dst ⌝ }
 {
     if net::is_loopback(dst) {
         return 2130706433;
     }
-    if n == 0 {
+    let m = at_most_four(n);
+    if m == 0 {
         return 0;
     }
-    let i = via(interfaces, n, dst);
+    let i = via(interfaces, m, dst);
     let x = interfaces[i];
     x.first
 }

@@ -2,7 +2,7 @@
 use Prim.Native.Nat.{ℕ, _+_, _-_, _*_, _<_, _≤_}
 use mathlib.Core.Path.{_≡_}
 use mathlib.Core.List.{List}
-use mathlib.Core.Bool.{Bool, not, cond}
+use mathlib.Core.Bool.{cond}
 use lib.ListN.{length, set}
 use lib.Dec.{eqb}
 use Rattle.laws.specs.Places.{copies, popped}
@@ -13,9 +13,6 @@ use Rattle.store.specs.Store.{slotWritten, slotsPopped}
 use Rattle.outqueue.specs.declared.OutQueue.{OutQueue}
 
 -- ---- an item
-
-abbrev pub notice : OutItem → Bool
-notice x = not (eqb (x .kind) 0)
 
 -- a notice goes back along the flow that it embeds
 abbrev pub sourceOf : OutItem → ℕ

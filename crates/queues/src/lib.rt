@@ -1,4 +1,4 @@
-// The sockets' queues: heads and counts in the record, payloads in the lent store. Nothing here is given a socket's ports.
+// The sockets' queues: heads and counts in the record, payloads in the lent store. No move here is given a socket.
 use net::Flow;
 use net::InterfaceId;
 use state::Queued;

@@ -180,7 +180,7 @@ pub fn is_ours(interfaces: [Interface; 4], a: u32) -> bool
     net::is_loopback(a) | is_own(interfaces, a)
 }
 
-// The id of the first interface that has the address; 0 where none has.
+// The id of the first interface that has the address, one of our own; 0 where none has.
 pub fn holder(interfaces: [Interface; 4], a: u32) -> InterfaceId
     ensures { λ r. ⌜ r ≡ holderId interfaces a ⌝ }
 {

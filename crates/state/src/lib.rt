@@ -1,4 +1,4 @@
-// What the host's record is made of. Each module has what one part must be, and who asks it.
+// What the host's record is made of; each module has what one part of it must be.
 use net::Descriptor;
 use net::Flow;
 use net::InterfaceId;
