@@ -1,0 +1,1 @@
+// No code: steps, runs, and what is proved of every one.
