@@ -3,10 +3,11 @@
 use mathlib.Core.Path.{_≡_, refl}
 use mathlib.Core.Bool.{true}
 use Rattle.laws.specs.Below.{allBelow, lowest}
+use Rattle.state.specs.Interfaces.{own}
 use Rattle.matching.specs.Scores.{scoreOf, bestBelow}
 use Rattle.matching.specs.Ports.{inUse, portFree, autoPort}
 use Rattle.cases.specs.Table.{table, rowsHold}
 
 pub cases : rowsHold table ≡ true
-unfolding table scoreOf bestBelow inUse portFree autoPort allBelow lowest
+unfolding table scoreOf bestBelow inUse portFree autoPort own allBelow lowest
 cases = refl

@@ -4,6 +4,10 @@ use mathlib.Core.List.{List, [], _∷_}
 use mathlib.Core.Bool.{Bool, true, false}
 use Rattle.net.specs.declared.Flow.{Flow}
 use Rattle.state.specs.declared.Socket.{Socket}
+use Rattle.state.specs.declared.Thread.the-variants.{Running}
+use Rattle.queues.specs.Moves.{noQueues}
+use Rattle.outqueue.specs.Moves.{noItems}
+use Rattle.host.specs.declared.Host.{Host}
 
 -- an address by its four numbers
 abbrev pub ip : ℕ → ℕ → ℕ → ℕ → ℕ
@@ -23,6 +27,18 @@ four =
     socket true (ip 10 2 0 5) 7000 0 0 ∷
     socket true (ip 10 2 0 5) 7000 (ip 10 2 0 9) 0 ∷
     socket true (ip 10 2 0 5) 7000 (ip 10 2 0 9) 6000 ∷ []
+
+-- one interface, id 1: 10.2.0.5, mask 255.255.255.0
+abbrev pub hosting : List Socket → Host
+hosting ks =
+    record {
+      interfaces = record { mask = ip 255 255 255 0; first = ip 10 2 0 5; second = 0; third = 0; fourth = 0; id = record { 0 = 1 } } ∷ [];
+      sockets = ks;
+      queues = noQueues;
+      out = noItems;
+      thread = Running;
+      icount = 1;
+    }
 
 -- socket 0 is bound without reuse, and socket 1 is to be bound
 abbrev pub bound : ℕ → ℕ → List Socket

@@ -1,14 +1,17 @@
--- Every case marked P in document 01 that speaks of addresses, scores, overlap and ports: what is computed beside what it has to be
+-- Every case marked P in document 01 that speaks of addresses, scores and binding: what is computed beside what it has to be
 use Prim.Native.Nat.{ℕ}
 use mathlib.Core.List.{List, [], _∷_}
-use mathlib.Core.Bool.{Bool, true, false, _&&_, cond}
+use mathlib.Core.Bool.{Bool, true, _&&_, cond}
 use lib.Dec.{eqb}
 use Rattle.net.specs.Address.{loopback, martian}
 use Rattle.net.specs.declared.Flow.{Flow}
+use Rattle.state.specs.declared.Socket.{Socket}
 use Rattle.state.specs.Places.{socketIn}
 use Rattle.matching.specs.Scores.{scoreOf, bestOf}
-use Rattle.matching.specs.Ports.{inUse, autoPort}
-use Rattle.cases.specs.Example.{ip, flow, four, bound}
+use Rattle.matching.specs.Ports.{autoPort}
+use Rattle.host.specs.Tables.{first}
+use Rattle.host.specs.Naming.{bindRows}
+use Rattle.cases.specs.Example.{ip, flow, four, hosting, bound}
 
 -- a test as a number
 abbrev yes : Bool → ℕ
@@ -20,6 +23,10 @@ score k f = scoreOf (socketIn four k) f
 
 abbrev winner : Flow → ℕ
 winner f = bestOf four f .at
+
+-- what bind's own rows say of socket 1
+abbrev bindGives : List Socket → ℕ → ℕ → ℕ
+bindGives ks a p = first (bindRows (hosting ks) 1 a p)
 
 unfoldable pub table : List (ℕ × ℕ)
 table =
@@ -52,9 +59,12 @@ table =
     (yes (loopback (ip 126 255 255 255)), 0) ∷
     (yes (loopback (ip 127 0 0 0)), 1) ∷
     (yes (loopback (ip 128 0 0 0)), 0) ∷
-    -- without reuse, wildcard:7000 then 10.2.0.5:7000 is in use; 10.2.0.5:7000 then 127.0.0.1:7000 is not
-    (yes (inUse (bound 0 7000) 1 false (ip 10 2 0 5) 7000), 1) ∷
-    (yes (inUse (bound (ip 10 2 0 5) 7000) 1 false (ip 127 0 0 1) 7000), 0) ∷
+    -- without reuse, wildcard:7000 then 10.2.0.5:7000 gives 9; 10.2.0.5:7000 then 127.0.0.1:7000 gives 0
+    (bindGives (bound 0 7000) (ip 10 2 0 5) 7000, 9) ∷
+    (bindGives (bound (ip 10 2 0 5) 7000) (ip 127 0 0 1) 7000, 0) ∷
+    -- port 1023 gives 7, 1024 gives 0
+    (bindGives (bound 0 7000) 0 1023, 7) ∷
+    (bindGives (bound 0 7000) 0 1024, 0) ∷
     -- first autobind 1024; with 1024 taken, 1025
     (autoPort four, 1024) ∷
     (autoPort (bound (ip 10 2 0 5) 1024), 1025) ∷ []

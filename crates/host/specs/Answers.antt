@@ -17,6 +17,10 @@ noPort = record { 0 = 0 }
 abbrev pub plain : ℕ → Answer
 plain n = record { item = noItem; address = 0; port = noPort; len = 0; readable = 0; writable = 0; number = n; descriptor = record { 0 = 0 }; value = 0 }
 
+-- the same host, with that number
+abbrev pub unchanged : Host → ℕ → Stepped
+unchanged h n = record { host = h; answer = plain n }
+
 -- with a descriptor: socket, 20 and 21
 abbrev pub told : ℕ → ℕ → Answer
 told n k = record { item = noItem; address = 0; port = noPort; len = 0; readable = 0; writable = 0; number = n; descriptor = record { 0 = k }; value = 0 }

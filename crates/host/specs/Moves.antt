@@ -1,4 +1,4 @@
--- The few things that steps do to a host: every step's host is one of these, or two of them in a row
+-- The few things that steps do to a host: opening and exit apart, every step's host is one of these, or two in a row
 use Prim.Native.Nat.{ℕ}
 use mathlib.Core.List.{List}
 use lib.ListN.{set}

@@ -41,7 +41,7 @@ bound h s k a p =
     unless (bindRefusal h (length s) k a (p .0)) h s []
     (gives (withSocket h k (withLocal (socketAt h k) a (portFor (h .sockets) p))) (plain 0) s [])
 
--- ---- connect (000, connect.1 and connect.2; an unroutable one is 13): 6, 13
+-- ---- connect (000, connect.1 and connect.2; connect.3 cannot be): 6, 13
 
 -- an absent local address becomes the route's source; 0 where there is none
 abbrev pub sourceFor : Host → Socket → ℕ → ℕ
@@ -59,7 +59,7 @@ connected h s k a p =
     unless (connectRefusal h (length s) k a) h s []
     (gives (withSocket h k (withRemote (withLocal (socketAt h k) (sourceFor h (socketAt h k) a) (portFor (h .sockets) (socketAt h k .lport))) a p)) (plain 0) s [])
 
--- ---- disconnect (000, disconnect.1; it does not autobind): clears the remote pair only
+-- ---- disconnect (000, disconnect.1 and disconnect.2): clears the remote pair only; 000 clears the local address too, and autobinds
 
 abbrev pub callRefusal : Host → ℕ → ℕ → ℕ
 callRefusal h room k = first (callRows h room k)

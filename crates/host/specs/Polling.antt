@@ -1,4 +1,4 @@
--- poll: 5 if a bit names a closed descriptor; gives each mask's ready bits
+-- poll (000, select.3 and select.4 for what is ready at once): 5 if a bit names a closed descriptor; gives each mask's ready bits
 use Prim.Native.Nat.{ℕ, zero, suc, _+_, _^_, _/_, _%_}
 use mathlib.Core.List.{List, [], _∷_, _++_}
 use mathlib.Core.Bool.{Bool, _&&_, _||_, not, cond}

@@ -24,7 +24,7 @@ oldestTaken h s k b t =
     cond (ltb (length b) (firstHead (h .queues) k .len)) (gives h (needing (firstHead (h .queues) k .len)) s b)
     (gives (withThread (withQueues h (taken (h .queues) s k b .queues)) t) (readOf (firstHead (h .queues) k)) (taken (h .queues) s k b .bytes) (taken (h .queues) s k b .lent))
 
--- ---- recvfrom (000, recvfrom.1 to recvfrom.4): 10; a datagram; 14 if nonblocking, else autobind if needed and 18, waiting
+-- ---- recvfrom (000, recvfrom.1 to recvfrom.4; recvfrom.5 cannot be): 10; a datagram; 14 if nonblocking, which does not autobind here; else autobind if needed and 18, waiting
 
 abbrev pub waitingOn : Host → ℕ → Host
 waitingOn h k = withThread (autobound h k) (Waiting (record { 0 = k }))

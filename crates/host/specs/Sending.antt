@@ -40,7 +40,7 @@ portOf h k = portFor (h .sockets) (socketAt h k .lport)
 abbrev pub autobound : Host → ℕ → Host
 autobound h k = withSocket h k (withLocal (socketAt h k) (socketAt h k .laddr) (portOf h k))
 
--- 6, 11, 12, 13, 14 (000, sendto.3 to sendto.6)
+-- 11 is 000's sendto.6, 12 is sendto.4 and 14 is sendto.3, without their autobind; 6 and 13 are document 01's own; sendto.2 is left out, sendto.7 cannot be
 abbrev pub sendRows : Host → ℕ → ℕ → Port → ℕ → List (Bool × ℕ)
 sendRows h k a p len =
     (halfGiven a (p .0), 6) ∷

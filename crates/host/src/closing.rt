@@ -17,10 +17,7 @@ impl Host {
         let k = d.0 as usize;
         let n = self.call_rows(store.len(), k, 0);
         if n != 0 {
-            return Stepped {
-                host: self,
-                answer: crate::numbered(n),
-            };
+            return self.refused(n);
         }
         let q = self.queues;
         let empty = q.clear(store, k);
@@ -53,10 +50,7 @@ impl Host {
     {
         let n = self.entry_rows(store.len(), 0);
         if n != 0 {
-            return Stepped {
-                host: self,
-                answer: crate::numbered(n),
-            };
+            return self.refused(n);
         }
         let empty = Queues::clear_all(store);
         Stepped {

@@ -12,7 +12,7 @@ ghost use mathlib.Core.Path.{_≡_};
 ghost use mathlib.Core.Bool.{cond};
 ghost use Rattle.state.specs.Places.{socketIn};
 ghost use Rattle.host.specs.Form.{wellFormed, countAt};
-ghost use Rattle.host.specs.Answers.{plain, told, named, valued, needing, readOf};
+ghost use Rattle.host.specs.Answers.{plain, unchanged, told, named, valued, needing, readOf};
 ghost use Rattle.host.specs.Moves.{withSocket, withQueues, withOut, withThread};
 ghost use Rattle.host.specs.Naming.{sourceFor};
 ghost use Rattle.host.specs.Options.{withoutError};
@@ -157,6 +157,16 @@ impl Host {
             & queues.are_queues(sockets)
             & out.are_items(interfaces)
             & state::threads::is_thread(sockets, thread)
+    }
+
+    // Answers n and changes nothing.
+    fn refused(self, n: u8) -> Stepped
+        ensures { λ r. ⌜ r ≡ unchanged self n ⌝ }
+    {
+        Stepped {
+            host: self,
+            answer: numbered(n),
+        }
     }
 
     // s as socket k; nothing changes where there is no such descriptor.

@@ -46,10 +46,7 @@ impl Host {
         let k = binding::lowest_closed(sockets);
         let n = self.entry_rows(store.len(), crate::row(k == 16, 15, 0));
         if n != 0 {
-            return Stepped {
-                host: self,
-                answer: crate::numbered(n),
-            };
+            return self.refused(n);
         }
         Stepped {
             host: self.with_socket(k, binding::new_socket()),
@@ -76,10 +73,7 @@ impl Host {
         let own = self.bind_refusal(k, address, port);
         let n = self.call_rows(store.len(), k, own);
         if n != 0 {
-            return Stepped {
-                host: self,
-                answer: crate::numbered(n),
-            };
+            return self.refused(n);
         }
         let sockets = self.sockets;
         let s = crate::socket_at(sockets, k);
@@ -100,10 +94,7 @@ impl Host {
         let own = connect_rows(address, source);
         let n = self.call_rows(store.len(), k, own);
         if n != 0 {
-            return Stepped {
-                host: self,
-                answer: crate::numbered(n),
-            };
+            return self.refused(n);
         }
         let local = s.lport;
         let p = binding::port_for(sockets, local);
@@ -121,10 +112,7 @@ impl Host {
         let k = d.0 as usize;
         let n = self.call_rows(store.len(), k, 0);
         if n != 0 {
-            return Stepped {
-                host: self,
-                answer: crate::numbered(n),
-            };
+            return self.refused(n);
         }
         let sockets = self.sockets;
         let s = crate::socket_at(sockets, k);
@@ -140,10 +128,7 @@ impl Host {
         let k = d.0 as usize;
         let n = self.call_rows(store.len(), k, 0);
         if n != 0 {
-            return Stepped {
-                host: self,
-                answer: crate::numbered(n),
-            };
+            return self.refused(n);
         }
         let sockets = self.sockets;
         let s = crate::socket_at(sockets, k);
@@ -163,10 +148,7 @@ impl Host {
         let s = crate::socket_at(sockets, k);
         let n = self.call_rows(store.len(), k, crate::row(s.raddr == 0, 12, 0));
         if n != 0 {
-            return Stepped {
-                host: self,
-                answer: crate::numbered(n),
-            };
+            return self.refused(n);
         }
         let port = s.rport;
         Stepped {

@@ -59,10 +59,7 @@ impl Host {
         let k = d.0 as usize;
         let n = self.call_rows(store.len(), k, 0);
         if n != 0 {
-            return Stepped {
-                host: self,
-                answer: crate::numbered(n),
-            };
+            return self.refused(n);
         }
         let sockets = self.sockets;
         let s = crate::socket_at(sockets, k);
@@ -79,10 +76,7 @@ impl Host {
         let own = crate::row(is_unknown(option), 6, 0);
         let n = self.call_rows(store.len(), k, own);
         if n != 0 {
-            return Stepped {
-                host: self,
-                answer: crate::numbered(n),
-            };
+            return self.refused(n);
         }
         let sockets = self.sockets;
         let s = crate::socket_at(sockets, k);
@@ -101,10 +95,7 @@ impl Host {
         let own = set_rows(s, option);
         let n = self.call_rows(store.len(), k, own);
         if n != 0 {
-            return Stepped {
-                host: self,
-                answer: crate::numbered(n),
-            };
+            return self.refused(n);
         }
         Stepped {
             host: self.with_socket(k, with_option(s, option, on)),

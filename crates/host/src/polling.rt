@@ -102,10 +102,7 @@ impl Host {
     {
         let n = self.poll_rows(store.len(), readers, writers);
         if n != 0 {
-            return Stepped {
-                host: self,
-                answer: crate::numbered(n),
-            };
+            return self.refused(n);
         }
         let sockets = self.sockets;
         let counts = self.queues.counts;

@@ -65,10 +65,7 @@ impl Host {
         let k = d.0 as usize;
         let n = self.call_rows(store.len(), k, 0);
         if n != 0 {
-            return Stepped {
-                host: self,
-                answer: crate::numbered(n),
-            };
+            return self.refused(n);
         }
         let sockets = self.sockets;
         let s = crate::socket_at(sockets, k);
@@ -83,10 +80,7 @@ impl Host {
             return self.take_oldest(store, k, buffer, t);
         }
         if nonblocking {
-            return Stepped {
-                host: self,
-                answer: crate::numbered(14),
-            };
+            return self.refused(14);
         }
         Stepped {
             host: self.wait_on(d.0),
@@ -120,10 +114,7 @@ impl Host {
         if self.held_by(k) != 0 {
             return self.take_oldest(store, k, buffer, Thread::Running);
         }
-        Stepped {
-            host: self,
-            answer: crate::numbered(18),
-        }
+        self.refused(18)
     }
 
     pub fn resume(self, store: &mut [u8], buffer: &mut [u8]) -> Stepped
@@ -131,10 +122,7 @@ impl Host {
     {
         let n = self.wait_rows(store.len());
         if n != 0 {
-            return Stepped {
-                host: self,
-                answer: crate::numbered(n),
-            };
+            return self.refused(n);
         }
         let t = self.thread;
         self.resume_on(store, awaited(t), buffer)
@@ -145,10 +133,7 @@ impl Host {
     {
         let n = self.wait_rows(store.len());
         if n != 0 {
-            return Stepped {
-                host: self,
-                answer: crate::numbered(n),
-            };
+            return self.refused(n);
         }
         Stepped {
             host: self.with_thread(Thread::Running),

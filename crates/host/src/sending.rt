@@ -111,10 +111,7 @@ impl Host {
     {
         let n = self.send_refusal(k, address, port, payload.len());
         if n != 0 {
-            return Stepped {
-                host: self,
-                answer: crate::numbered(n),
-            };
+            return self.refused(n);
         }
         let flow = self.flow_of(k, address, port);
         let out = self.out;
@@ -139,10 +136,7 @@ impl Host {
         let k = d.0 as usize;
         let n = self.call_rows(store.len(), k, 0);
         if n != 0 {
-            return Stepped {
-                host: self,
-                answer: crate::numbered(n),
-            };
+            return self.refused(n);
         }
         let sockets = self.sockets;
         let s = crate::socket_at(sockets, k);

@@ -1,7 +1,7 @@
 -- `host::Host::queue_out` meets its contract.
 -- Assumes nothing.
 use lib.ListN.{length}
-use mathlib.Core.Path.{ap}
+use mathlib.Core.Path.{refl, ap}
 use Rattle.outqueue.specs.Moves.{Left}
 use Rattle.host.specs.Sending.{queuedOut}
 use Rattle.host.proofs.Refusals.{refuses, passes}
@@ -15,13 +15,13 @@ add-requires c κs = let a = c .before .before .before .before .before .before .
 
 returns : tie.Need-returns
 unfolding queuedOut
-returns c = refuses _ _ _ _ (c .before .before .send-refusal .ensures) (c .before .if1 .taken) (c .numbered .ensures)
+returns c = rw (c .refused .ensures) (refuses _ _ _ _ (c .before .before .send-refusal .ensures) (c .before .if1 .taken) refl)
 
 returns-2 : tie.Need-returns-2
 unfolding queuedOut
-returns-2 c = passes _ _ _ _ (c .before .before .before .before .before .before .before .before .before .before .send-refusal .ensures) (c .before .before .before .before .before .before .before .before .before .if1 .left) (rw (c .numbered2 .ensures, c .before .with-out .ensures, c .before .before .autobound .ensures, ap (λ (x : Left). x .out) (c .before .before .before .before .before .add .ensures), ap (λ (x : Left). x .bytes) (c .before .before .before .before .before .add .ensures), c .before .before .before .before .before .before .before .before .flow-of .ensures))
+returns-2 c = passes _ _ _ _ (c .before .before .before .before .before .before .before .before .before .before .send-refusal .ensures) (c .before .before .before .before .before .before .before .before .before .if1 .left) (rw (c .numbered .ensures, c .before .with-out .ensures, c .before .before .autobound .ensures, ap (λ (x : Left). x .out) (c .before .before .before .before .before .add .ensures), ap (λ (x : Left). x .bytes) (c .before .before .before .before .before .add .ensures), c .before .before .before .before .before .before .before .before .flow-of .ensures))
 
--- send-refusal-requires, numbered-requires, returns, flow-of-requires, add-requires, autobound-requires, with-out-requires, numbered-requires-2,
+-- send-refusal-requires, refused-requires, returns, flow-of-requires, add-requires, autobound-requires, with-out-requires, numbered-requires-2,
 -- same-length, returns-2
 pub queue-out-spec : {M : Type 1} → statement M
 queue-out-spec =

@@ -1,5 +1,6 @@
 -- `host::Host::recvfrom` meets its contract.
 -- Assumes nothing.
+use mathlib.Core.Path.{refl}
 use borrow.Author.Tests.{eq-eqb, ne-eqb}
 use Rattle.host.specs.Reading.{received}
 use Rattle.host.proofs.Refusals.{refuses, passes}
@@ -13,11 +14,11 @@ take-oldest-requires c κs = let p = called _ _ _ _ (c .before .before .before .
 
 returns : tie.Need-returns
 unfolding received
-returns c = refuses _ _ _ _ (c .before .before .call-rows .ensures) (c .before .if1 .taken) (c .numbered .ensures)
+returns c = rw (c .refused .ensures) (refuses _ _ _ _ (c .before .before .call-rows .ensures) (c .before .if1 .taken) refl)
 
 returns-2 : tie.Need-returns-2
 unfolding received
-returns-2 c = passes _ _ _ _ (c .before .before .before .before .before .before .before .call-rows .ensures) (c .before .before .before .before .before .before .if1 .left) (simp (ne-eqb _ _ (rw (c .before .before .before .before .socket-at .ensures) at (c .before .before .if2 .taken)), c .before .without-error .ensures, c .numbered2 .ensures))
+returns-2 c = passes _ _ _ _ (c .before .before .before .before .before .before .before .call-rows .ensures) (c .before .before .before .before .before .before .if1 .left) (simp (ne-eqb _ _ (rw (c .before .before .before .before .socket-at .ensures) at (c .before .before .if2 .taken)), c .before .without-error .ensures, c .numbered .ensures))
 
 returns-3 : tie.Need-returns-3
 unfolding received
@@ -25,13 +26,13 @@ returns-3 c = passes _ _ _ _ (c .before .before .before .before .before .before 
 
 returns-4 : tie.Need-returns-4
 unfolding received
-returns-4 c = passes _ _ _ _ (c .before .before .before .before .before .before .before .before .before .call-rows .ensures) (c .before .before .before .before .before .before .before .before .if1 .left) (simp (eq-eqb _ _ (rw (c .before .before .before .before .before .before .socket-at .ensures) at (c .before .before .before .before .if2 .left)), eq-eqb _ _ (rw (c .before .before .before .held-by .ensures) at (c .before .before .if3 .left)), c .before .if4 .taken, c .numbered3 .ensures))
+returns-4 c = passes _ _ _ _ (c .before .before .before .before .before .before .before .before .before .call-rows .ensures) (c .before .before .before .before .before .before .before .before .if1 .left) (simp (eq-eqb _ _ (rw (c .before .before .before .before .before .before .socket-at .ensures) at (c .before .before .before .before .if2 .left)), eq-eqb _ _ (rw (c .before .before .before .held-by .ensures) at (c .before .before .if3 .left)), c .before .if4 .taken, c .refused2 .ensures))
 
 returns-5 : tie.Need-returns-5
 unfolding received
-returns-5 c = passes _ _ _ _ (c .before .before .before .before .before .before .before .before .before .before .call-rows .ensures) (c .before .before .before .before .before .before .before .before .before .if1 .left) (simp (eq-eqb _ _ (rw (c .before .before .before .before .before .before .before .socket-at .ensures) at (c .before .before .before .before .before .if2 .left)), eq-eqb _ _ (rw (c .before .before .before .before .held-by .ensures) at (c .before .before .before .if3 .left)), c .before .before .if4 .left) (rw (c .before .wait-on .ensures, c .numbered4 .ensures)))
+returns-5 c = passes _ _ _ _ (c .before .before .before .before .before .before .before .before .before .before .call-rows .ensures) (c .before .before .before .before .before .before .before .before .before .if1 .left) (simp (eq-eqb _ _ (rw (c .before .before .before .before .before .before .before .socket-at .ensures) at (c .before .before .before .before .before .if2 .left)), eq-eqb _ _ (rw (c .before .before .before .before .held-by .ensures) at (c .before .before .before .if3 .left)), c .before .before .if4 .left) (rw (c .before .wait-on .ensures, c .numbered2 .ensures)))
 
--- cast-k, call-rows-requires, numbered-requires, returns, socket-at-requires, without-error-requires, numbered-requires-2, returns-2,
+-- cast-k, call-rows-requires, refused-requires, returns, socket-at-requires, without-error-requires, numbered-requires-2, returns-2,
 -- held-by-requires, take-oldest-requires, same-length, same-length-2, returns-3, numbered-requires-3, returns-4, wait-on-requires,
 -- numbered-requires-4, returns-5
 pub recvfrom-spec : {M : Type 1} → statement M

@@ -19,9 +19,9 @@ returns-2 c = simp (eq-eqb _ _ (rw (c .before .before .before .before .before .b
 
 returns-3 : tie.Need-returns-3
 unfolding resumedOn
-returns-3 c = simp (eq-eqb _ _ (rw (c .before .before .before .before .before .socket-at .ensures) at (c .before .before .before .if1 .left)), eq-eqb _ _ (rw (c .before .before .held-by .ensures) at (c .before .if2 .left)), c .numbered2 .ensures)
+returns-3 c = simp (eq-eqb _ _ (rw (c .before .before .before .before .before .socket-at .ensures) at (c .before .before .before .if1 .left)), eq-eqb _ _ (rw (c .before .before .held-by .ensures) at (c .before .if2 .left)), c .refused .ensures)
 
--- socket-at-requires, without-error-requires, with-thread-requires, numbered-requires, returns, held-by-requires, take-oldest-requires, same-length,
+-- socket-at-requires, without-error-requires, with-thread-requires, refused-requires, returns, held-by-requires, take-oldest-requires, same-length,
 -- same-length-2, returns-2, numbered-requires-2, returns-3
 pub resume-on-spec : {M : Type 1} → statement M
 resume-on-spec =
