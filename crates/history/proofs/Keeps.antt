@@ -19,11 +19,12 @@ use Rattle.state.specs.declared.Interface.{Interface}
 use Rattle.state.specs.declared.Socket.{Socket}
 use Rattle.state.specs.declared.Thread.{Thread}
 use Rattle.state.specs.declared.Thread.the-variants.{Running, Waiting, Ended}
-use Rattle.state.specs.Places.{noSocket, socketIn}
-use Rattle.state.specs.Interfaces.{ours}
+use Rattle.state.specs.Places.{noInterface, noSocket, socketIn}
+use Rattle.state.specs.Interfaces.{ours, openingOk}
 use Rattle.state.specs.Threads.{waiting}
 use Rattle.state.specs.Plain.{Opened, Chained, Bound, Awaited}
 use Rattle.state.proofs.Places.{socket-there}
+use Rattle.state.proofs.Opened.{opened-is}
 use Rattle.matching.specs.Ports.{inUse, autoPort}
 use Rattle.matching.specs.Routes.{routeSource}
 use Rattle.matching.proofs.Paths.{source-ours}
@@ -46,7 +47,7 @@ use Rattle.host.specs.Moves.{withSocket, withQueues, withOut, withThread}
 use Rattle.host.specs.Tables.{aliveRows}
 use Rattle.host.specs.Entered.{Ready, Called, Holding}
 use Rattle.host.specs.Naming.{socketRefusal, socketed, bindRows, bindRefusal, bound, sourceFor, connectRows, connectRefusal, connected, callRefusal, disconnected, localGiven, peerGiven, peerRefusal}
-use Rattle.host.specs.Opening.{emptyHost}
+use Rattle.host.specs.Opening.{emptyHost, openingRefusal, opened}
 use Rattle.host.specs.Polling.{polledOf}
 use Rattle.host.specs.Closing.{closed, exitHost, exited}
 use Rattle.host.specs.Options.{withoutError, errorGiven, optionGiven, setRefusal, withOption, optionSet, optionRefusal, unknownOption}
@@ -357,10 +358,27 @@ exit-sound h s g =
     unless-keeps g _ s [] _
     (λ e. empty-sound (h .interfaces) (h .icount) (h .out) Ended (parts g .opened) (g .out) (parts g .out) (λ d x. absurd (false≢true (ap waiting x))))
 
--- an accepted opening gives a sound host
-pub opening-sound : (is : List Interface) (n : ℕ) → Opened is n → Sound (emptyHost is n Running)
-unfolding emptyHost
-opening-sound is n o = empty-sound is n noItems Running o outs.empty-sized (outs.empty-fit is) (λ d x. absurd (false≢true (ap waiting x)))
+-- opening gives a sound host, refused or not
+none-opened : Opened (copies noInterface 4) 0
+none-opened =
+    record {
+      few = omega arith;
+      ids = λ i l. absurd (omega arith);
+      others = λ i j l. absurd (omega arith);
+      addressed = λ i l. absurd (omega arith);
+      agreed = λ i p q a b l. absurd (omega arith);
+      distinct = λ i j p q a l. absurd (omega arith);
+      usable = λ i p a l. absurd (omega arith);
+      unused = λ i l m. getD-copies noInterface noInterface 4 i m;
+    }
+
+pub opening-sound : (is : List Interface) (n : ℕ) (s : List ℕ) → Sound (opened is n s .host)
+unfolding opened emptyHost
+opening-sound is n s =
+    cond-cases (eqb (openingRefusal is n (length s)) 0) _ _ (λ (o : Outcome). Sound (o .host))
+    (λ e. let rows = rows-passed ((not (eqb (length s) 40960), 2) ∷ (not (openingOk is n), 17) ∷ []) 0 refl (eqb-true _ _ e) .0 in
+    empty-sound is n noItems Running (opened-is is n .says (not-false _ (rows .1 .0))) outs.empty-sized (outs.empty-fit is) (λ d x. absurd (false≢true (ap waiting x))))
+    (λ e. empty-sound (copies noInterface 4) 0 noItems Ended none-opened outs.empty-sized (outs.empty-fit (copies noInterface 4)) (λ d x. absurd (false≢true (ap waiting x))))
 
 -- ---- every step
 

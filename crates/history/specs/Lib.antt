@@ -1,2 +1,5 @@
 pub mod Steps
 pub mod Sound
+pub mod Frame
+pub mod Effects
+pub mod Order
