@@ -1,9 +1,9 @@
 -- A refusal changes nothing; 10 alone clears the pending error.
 -- Assumes nothing.
-use mathlib.Core.Path.{_≡_, refl}
+use mathlib.Core.Path.{refl}
 use mathlib.Core.List.{List, []}
 use mathlib.Core.Logic.{_≢_}
-use mathlib.Core.Bool.{not, cond}
+use mathlib.Core.Bool.{not}
 use Prim.Native.Nat.{ℕ, _≤_}
 use native.Mathlib.Omega.{arith}
 use lib.Dec.{eqb, ltb}
@@ -14,14 +14,14 @@ use Rattle.queues.specs.Moves.{firstHead}
 use Rattle.host.specs.declared.Host.{Host}
 use Rattle.host.specs.declared.Answer.{Answer}
 use Rattle.host.specs.Form.{socketAt, countAt}
-use Rattle.host.specs.Answers.{Outcome, gives, unless, plain, needing, readOf}
+use Rattle.host.specs.Answers.{Outcome, gives, unless, plain}
 use Rattle.host.specs.Naming.{socketed, bound, connected, disconnected, localGiven, peerGiven}
 use Rattle.host.specs.Options.{errorGiven, optionGiven, optionSet}
 use Rattle.host.specs.Sending.{queuedOut, sent}
 use Rattle.host.specs.Reading.{oldestTaken, received, awaitedBy, resumedOn, resumed, interrupted}
 use Rattle.host.specs.Polling.{polledOf}
 use Rattle.host.specs.Closing.{closed, exited}
-use Rattle.history.specs.Effects.{lentBy, Unchanged, Refusal}
+use Rattle.history.specs.Effects.{lentBy, Refusal}
 use Rattle.history.specs.Steps.{World, Step, after, socket, bind, connect, disconnect, getsockname, getpeername, geterr, getopt, setopt, sendto, recvfrom, resume, interrupt, poll, close, exit}
 
 -- ---- refusals

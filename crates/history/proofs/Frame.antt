@@ -1,15 +1,13 @@
 -- A call that neither names a socket nor picks it, doesn't resume its wait and isn't exit, changes neither its record nor its queue.
 -- Assumes nothing.
-use mathlib.Core.Path.{_≡_, refl, sym, ap, _∙_}
+use mathlib.Core.Path.{_≡_, refl, _∙_}
 use mathlib.Core.List.{List, []}
 use mathlib.Core.Logic.{_≢_}
-use mathlib.Core.Bool.{Bool, not, cond}
-use Prim.Native.Nat.{ℕ, _<_, _≤_}
-use native.Mathlib.Omega.{arith}
+use mathlib.Core.Bool.{Bool, not}
+use Prim.Native.Nat.{ℕ, _<_}
 use lib.Dec.{eqb, ltb}
 use lib.ListN.{length}
 use borrow.Author.Tests.{eqb-true, eqb-false, not-true}
-use Rattle.laws.specs.Places.{part}
 use Rattle.laws.proofs.Tests.{cond-cases}
 use Rattle.net.specs.declared.Port.{Port}
 use Rattle.state.specs.declared.Socket.{Socket}
@@ -18,7 +16,7 @@ use Rattle.state.specs.declared.Thread.the-variants.{Running}
 use Rattle.state.specs.Places.{noItem}
 use Rattle.state.proofs.Places.{socket-else}
 use Rattle.queues.specs.declared.Queues.{Queues}
-use Rattle.queues.specs.Moves.{firstHead, withoutFirst, withoutAny, Some}
+use Rattle.queues.specs.Moves.{firstHead}
 use Rattle.queues.specs.Held.{SameQueue}
 use Rattle.queues.proofs.Held.{elsewhere, take-else, clear-else}
 use Rattle.outqueue.specs.declared.OutQueue.{OutQueue}
@@ -29,11 +27,11 @@ use Rattle.host.specs.declared.Answer.{Answer}
 use Rattle.host.specs.Form.{socketAt, countAt}
 use Rattle.host.specs.Answers.{Outcome, gives, unless, plain}
 use Rattle.host.specs.Moves.{withSocket, withQueues, withOut, withThread}
-use Rattle.host.specs.Entered.{Ready, Called, Holding}
+use Rattle.host.specs.Entered.{Ready, Holding}
 use Rattle.host.specs.Naming.{socketed, bound, connected, disconnected, localGiven, peerGiven}
 use Rattle.host.specs.Options.{errorGiven, optionGiven, optionSet}
-use Rattle.host.specs.Sending.{queuedOut, sent, autobound}
-use Rattle.host.specs.Reading.{oldestTaken, waitingOn, received, awaitedBy, resumedOn, resumed, interrupted}
+use Rattle.host.specs.Sending.{queuedOut, sent}
+use Rattle.host.specs.Reading.{oldestTaken, received, awaitedBy, resumedOn, resumed, interrupted}
 use Rattle.host.specs.Polling.{polledOf}
 use Rattle.host.specs.Closing.{closed}
 use Rattle.host.proofs.Passed.{called, resuming, sendable, holds-some}

@@ -8,7 +8,7 @@ use Prim.Native.Nat.{ℕ, _<_, _≤_}
 use native.Mathlib.Omega.{arith}
 use lib.Dec.{eqb, ltb}
 use lib.ListN.{length}
-use borrow.Author.Tests.{eqb-true, eqb-false, eq-eqb, ne-eqb, ltb-false, not-true, not-false}
+use borrow.Author.Tests.{eqb-true, eqb-false, not-true, not-false}
 use Rattle.laws.specs.Places.{copies}
 use Rattle.laws.proofs.Numbers.{same-or-not}
 use Rattle.laws.proofs.Splice.{length-copies, getD-copies}
@@ -26,9 +26,8 @@ use Rattle.state.specs.Plain.{Opened, Chained, Bound, Awaited}
 use Rattle.state.proofs.Places.{socket-there}
 use Rattle.state.proofs.Opened.{opened-is}
 use Rattle.matching.specs.Ports.{inUse, autoPort}
-use Rattle.matching.specs.Routes.{routeSource}
 use Rattle.matching.proofs.Paths.{source-ours}
-use Rattle.binding.specs.Sockets.{newSocket, lowestClosed, withLocal, withRemote, withError, withOptions, portFor}
+use Rattle.binding.specs.Sockets.{lowestClosed, withLocal, withRemote, portFor}
 use Rattle.binding.proofs.Stands.{Stands, unbound-stands, error-stands, options-stands, linked-stands, bound-stands, auto-stands, new-fit, closed-fit, lowest-closed, port-some}
 use Rattle.queues.specs.declared.Queues.{Queues}
 use Rattle.queues.specs.Moves.{firstHead, withoutFirst, withoutAny, noQueues, Some}
@@ -41,16 +40,16 @@ use Rattle.outqueue.specs.Fits.{OutFit}
 use Rattle.outqueue.proofs.Held.{add-sized, add-fit}
 use Rattle.outqueue.proofs.Held as outs
 use Rattle.host.specs.declared.Host.{Host}
-use Rattle.host.specs.Form.{socketAt, countAt, WellFormed}
-use Rattle.host.specs.Answers.{Outcome, gives, unless, plain, noPort}
+use Rattle.host.specs.Form.{socketAt, countAt}
+use Rattle.host.specs.Answers.{Outcome, gives, unless, plain}
 use Rattle.host.specs.Moves.{withSocket, withQueues, withOut, withThread}
 use Rattle.host.specs.Tables.{aliveRows}
 use Rattle.host.specs.Entered.{Ready, Called, Holding}
-use Rattle.host.specs.Naming.{socketRefusal, socketed, bindRows, bindRefusal, bound, sourceFor, connectRows, connectRefusal, connected, callRefusal, disconnected, localGiven, peerGiven, peerRefusal}
+use Rattle.host.specs.Naming.{socketed, bindRows, bound, sourceFor, connectRows, connected, disconnected, localGiven, peerGiven}
 use Rattle.host.specs.Opening.{emptyHost, openingRefusal, opened}
 use Rattle.host.specs.Polling.{polledOf}
 use Rattle.host.specs.Closing.{closed, exitHost, exited}
-use Rattle.host.specs.Options.{withoutError, errorGiven, optionGiven, setRefusal, withOption, optionSet, optionRefusal, unknownOption}
+use Rattle.host.specs.Options.{withoutError, errorGiven, optionGiven, optionSet, unknownOption}
 use Rattle.host.specs.Sending.{target, sendRows, autobound, flowOf, queuedOut, sent}
 use Rattle.host.specs.Sending.{portOf}
 use Rattle.host.specs.Reading.{oldestTaken, waitingOn, received, resumeRefusal, awaitedBy, resumedOn, resumed, interrupted}

@@ -1,17 +1,17 @@
 -- A sound host stays sound under each of the few things that steps do to it.
 -- Assumes nothing.
-use mathlib.Core.Path.{_≡_, refl, sym, ap, _∙_}
+use mathlib.Core.Path.{_≡_, ap}
 use mathlib.Core.List.{List}
-use mathlib.Core.Logic.{_≢_, _⊎_, inl, inr, ⊎-elim}
+use mathlib.Core.Logic.{_≢_, _⊎_, ⊎-elim}
 use mathlib.Core.Bool.{true, false≢true}
 use Prim.Native.Nat.{ℕ, _<_}
 use native.Mathlib.Omega.{arith}
-use lib.ListN.{length, set}
+use lib.ListN.{set}
 use Rattle.laws.proofs.Numbers.{same-or-not}
 use Rattle.net.specs.declared.Descriptor.{Descriptor}
 use Rattle.state.specs.declared.Socket.{Socket}
 use Rattle.state.specs.declared.Thread.{Thread}
-use Rattle.state.specs.declared.Thread.the-variants.{Running, Waiting, Ended}
+use Rattle.state.specs.declared.Thread.the-variants.{Running, Waiting}
 use Rattle.state.specs.Places.{socketIn}
 use Rattle.state.specs.Threads.{waiting}
 use Rattle.state.specs.Plain.{Awaited}
@@ -24,7 +24,7 @@ use Rattle.outqueue.specs.declared.OutQueue.{OutQueue}
 use Rattle.outqueue.specs.Fits.{OutFit}
 use Rattle.outqueue.specs.Held as out
 use Rattle.host.specs.declared.Host.{Host}
-use Rattle.host.specs.Form.{socketAt, WellFormed}
+use Rattle.host.specs.Form.{socketAt}
 use Rattle.host.specs.Moves.{withSocket, withQueues, withOut, withThread}
 use Rattle.host.proofs.Form.{Parts, from-parts, to-parts}
 use Rattle.history.specs.Sound.{Sound}

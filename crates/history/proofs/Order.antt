@@ -2,13 +2,12 @@
 -- Assumes nothing.
 use mathlib.Core.Path.{_≡_, refl, sym, ap, _∙_}
 use mathlib.Core.List.{List, [], _∷_, _++_}
-use mathlib.Core.Logic.{_≢_}
 use mathlib.Core.Bool.{Bool, true, false, _&&_, not, cond}
-use Prim.Native.Nat.{ℕ, _<_, _≤_}
+use Prim.Native.Nat.{ℕ, _<_}
 use native.Mathlib.Omega.{arith}
 use lib.Dec.{eqb, ltb}
 use lib.ListN.{length}
-use borrow.Author.Tests.{eqb-true, eqb-false, ne-eqb, not-true}
+use borrow.Author.Tests.{eqb-true, eqb-false, not-true}
 use Rattle.laws.specs.Places.{splice}
 use Rattle.laws.proofs.Tests.{cond-cases}
 use Rattle.net.specs.declared.Port.{Port}
@@ -27,7 +26,7 @@ use Rattle.host.specs.declared.Answer.{Answer}
 use Rattle.host.specs.Form.{socketAt, countAt}
 use Rattle.host.specs.Answers.{Outcome, gives, unless, plain, needing, readOf}
 use Rattle.host.specs.Moves.{withSocket, withQueues, withOut, withThread}
-use Rattle.host.specs.Entered.{Ready, Called, Holding}
+use Rattle.host.specs.Entered.{Ready, Holding}
 use Rattle.host.specs.Naming.{socketed, bound, connected, disconnected, localGiven, peerGiven}
 use Rattle.host.specs.Options.{withoutError, errorGiven, optionGiven, optionSet}
 use Rattle.host.specs.Sending.{queuedOut, sent}
@@ -36,7 +35,7 @@ use Rattle.host.specs.Polling.{polledOf}
 use Rattle.host.specs.Closing.{closed, exited, exitHost}
 use Rattle.host.proofs.Passed.{entered, called, resuming, sendable, holds-some}
 use Rattle.history.specs.Sound.{Sound}
-use Rattle.history.specs.Frame.{Named, Untouched}
+use Rattle.history.specs.Frame.{Named}
 use Rattle.history.specs.Order.{holds, firstOf, readBy, Ends, Handed}
 use Rattle.history.specs.Steps.{World, Step, after, socket, bind, connect, disconnect, getsockname, getpeername, geterr, getopt, setopt, sendto, recvfrom, resume, interrupt, poll, close, exit}
 use Rattle.history.proofs.Frame.{call-frame}

@@ -1,6 +1,5 @@
 -- Whom a step names or picks, and what it is to stay as one was
 use mathlib.Core.Path.{_≡_}
-use mathlib.Core.List.{List}
 use Prim.Native.Nat.{ℕ}
 use Rattle.binding.specs.Sockets.{lowestClosed}
 use Rattle.queues.specs.Held.{SameQueue}
