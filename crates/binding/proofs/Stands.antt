@@ -1,10 +1,10 @@
 -- Which socket may stand where socket k stands: a law for each way in which calls change one.
 -- Assumes nothing.
-use mathlib.Core.Path.{_≡_, refl, sym, ap, _∙_}
+use mathlib.Core.Path.{_≡_, refl, sym, _∙_}
 use mathlib.Core.List.{List}
 use mathlib.Core.Logic.{_≢_, _⊎_, inl, inr, ⊎-elim}
 use mathlib.Core.Bool.{Bool, true, false}
-use Prim.Native.Nat.{ℕ, _<_, _≤_}
+use Prim.Native.Nat.{ℕ, _<_}
 use native.Mathlib.Omega.{arith}
 use lib.Dec.{eqb}
 use lib.ListN.{length, set, length-set}
@@ -17,11 +17,11 @@ use Rattle.state.specs.declared.Interface.{Interface}
 use Rattle.state.specs.declared.Socket.{Socket}
 use Rattle.state.specs.Places.{noSocket, socketIn}
 use Rattle.state.specs.Interfaces.{ours}
-use Rattle.state.specs.Plain.{Chained, LocalKnown, SocketFit, Overlap, Apart}
+use Rattle.state.specs.Plain.{Chained, SocketFit, Overlap, Apart}
 use Rattle.state.proofs.Places.{socket-there, socket-else}
 use Rattle.state.proofs.Fits.{AllApart, apart-sym}
 use Rattle.matching.specs.Ports.{inUse, autoPort}
-use Rattle.matching.proofs.Free.{Takes, unused-is, auto-free, auto-from}
+use Rattle.matching.proofs.Free.{unused-is, auto-free, auto-from}
 use Rattle.binding.specs.Sockets.{newSocket, closedAt, lowestClosed, withLocal, withRemote, withError, withOptions, portFor}
 
 -- the sockets of a well-formed record

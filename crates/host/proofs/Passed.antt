@@ -1,6 +1,6 @@
 -- What is known once a table of refusals is passed.
 -- Assumes nothing.
-use mathlib.Core.Path.{_≡_, refl, sym, ap, _∙_}
+use mathlib.Core.Path.{_≡_, refl, sym, _∙_}
 use mathlib.Core.List.{List, [], _∷_, _++_}
 use mathlib.Core.Logic.{_≢_}
 use mathlib.Core.Bool.{Bool, true, false, _&&_, not, true≢false, false≢true}
@@ -24,7 +24,7 @@ use Rattle.store.specs.Store.{zeros}
 use Rattle.queues.specs.Moves.{firstHead}
 use Rattle.host.specs.declared.Host.{Host}
 use Rattle.host.specs.declared.Answer.{Answer}
-use Rattle.host.specs.Form.{socketAt, countAt}
+use Rattle.host.specs.Form.{countAt}
 use Rattle.host.specs.Answers.{gives, plain}
 use Rattle.host.specs.Tables.{firstOr, first, readyRows, aliveRows, entryRows, callRows}
 use Rattle.host.specs.Entered.{Ready, RunningIn, Called, Holding}

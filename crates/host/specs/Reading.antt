@@ -1,5 +1,5 @@
 -- recvfrom, resume, interrupt
-use Prim.Native.Nat.{ℕ, _*_}
+use Prim.Native.Nat.{ℕ}
 use mathlib.Core.List.{List, [], _∷_, _++_}
 use mathlib.Core.Bool.{Bool, not, cond}
 use lib.Dec.{ltb, eqb}

@@ -1,6 +1,6 @@
 -- sendto
 use Prim.Native.Nat.{ℕ, _+_, _*_}
-use mathlib.Core.List.{List, [], _∷_, _++_}
+use mathlib.Core.List.{List, [], _∷_}
 use mathlib.Core.Bool.{Bool, _&&_, _||_, not, cond}
 use lib.Dec.{ltb, eqb}
 use lib.ListN.{length}
@@ -14,7 +14,7 @@ use Rattle.host.specs.declared.Host.{Host}
 use Rattle.host.specs.Form.{socketAt}
 use Rattle.host.specs.Answers.{Outcome, gives, unless, plain}
 use Rattle.host.specs.Moves.{withSocket, withOut}
-use Rattle.host.specs.Tables.{first, callRows}
+use Rattle.host.specs.Tables.{first}
 use Rattle.host.specs.Naming.{callRefusal, sourceFor}
 use Rattle.host.specs.Options.{withoutError}
 

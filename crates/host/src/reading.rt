@@ -70,10 +70,8 @@ impl Host {
         let sockets = self.sockets;
         let s = crate::socket_at(sockets, k);
         if s.error != 0 {
-            return Stepped {
-                host: self.without_error(k),
-                answer: crate::numbered(10),
-            };
+            let told = self.without_error(k);
+            return told.refused(10);
         }
         let t = self.thread;
         if self.held_by(k) != 0 {
@@ -105,11 +103,9 @@ impl Host {
         let sockets = self.sockets;
         let s = crate::socket_at(sockets, k);
         if s.error != 0 {
-            let h = self.without_error(k);
-            return Stepped {
-                host: h.with_thread(Thread::Running),
-                answer: crate::numbered(10),
-            };
+            let told = self.without_error(k);
+            let h = told.with_thread(Thread::Running);
+            return h.refused(10);
         }
         if self.held_by(k) != 0 {
             return self.take_oldest(store, k, buffer, Thread::Running);

@@ -141,10 +141,8 @@ impl Host {
         let sockets = self.sockets;
         let s = crate::socket_at(sockets, k);
         if s.error != 0 {
-            return Stepped {
-                host: self.without_error(k),
-                answer: crate::numbered(10),
-            };
+            let told = self.without_error(k);
+            return told.refused(10);
         }
         self.queue_out(store, k, address, port, payload)
     }

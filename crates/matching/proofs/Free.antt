@@ -11,12 +11,12 @@ use borrow.Author.Tests.{eq-eqb, ne-eqb}
 use Rattle.laws.specs.Decides.{Decides, Fails}
 use Rattle.laws.proofs.Numbers.{side, same-or-not}
 use Rattle.laws.proofs.Below.{lowest-from, lowest-least, lowest-passes, lowest-before}
-use Rattle.laws.proofs.Decide.{d-eq, f-eq, d-yes, f-not, d-not, f-absurd, d-and, d-or, d-unless, d-all, d-to}
+use Rattle.laws.proofs.Decide.{d-eq, f-eq, d-yes, f-not, d-not, f-absurd, d-and, d-unless, d-all, d-to}
 use Rattle.state.specs.declared.Socket.{Socket}
 use Rattle.state.specs.Places.{socketIn}
 use Rattle.state.specs.Plain.{Overlap}
 use Rattle.state.proofs.Fits.{overlap-is}
-use Rattle.matching.specs.Ports.{takes, leaves, inUse, portFree, autoPort}
+use Rattle.matching.specs.Ports.{takes, inUse, portFree, autoPort}
 
 -- ---- in use
 

@@ -2,15 +2,15 @@
 -- Assumes nothing.
 use mathlib.Core.Path.{_≡_, refl, sym, ap, _∙_}
 use mathlib.Core.List.{List}
-use mathlib.Core.Logic.{_≢_, _⊎_, inl, inr, ⊎-elim}
+use mathlib.Core.Logic.{_≢_, _⊎_, ⊎-elim}
 use mathlib.Core.Bool.{Bool, true, false}
 use Prim.Native.Nat.{ℕ, _+_, _<_, _≤_}
 use native.Mathlib.Omega.{arith}
 use lib.Dec.{ltb}
 use borrow.Author.Tests.{eq-eqb, ne-eqb, lt-ltb, le-ltb, le-leb, ltb-true}
 use Rattle.laws.proofs.Numbers.{side, same-or-not}
-use Rattle.laws.proofs.Tests.{two, not-both, or-one, or-two, cond-cases}
-use Rattle.laws.proofs.Below.{lowest-upto, lowest-passes, lowest-least, lowest-before}
+use Rattle.laws.proofs.Tests.{two, not-both, or-two, cond-cases}
+use Rattle.laws.proofs.Below.{lowest-upto, lowest-passes, lowest-before}
 use Rattle.net.specs.Address.{loopback, localhost}
 use Rattle.state.specs.declared.Interface.{Interface}
 use Rattle.state.specs.Places.{interfaceIn}

@@ -1,15 +1,13 @@
 -- What a score says: nothing without an open local port, the number of parts where all agree; and two that match have reuse.
 -- Assumes nothing.
-use mathlib.Core.Path.{_≡_, refl, sym, _∙_}
+use mathlib.Core.Path.{_≡_, sym, _∙_}
 use mathlib.Core.List.{List}
 use mathlib.Core.Logic.{_≢_, _⊎_, inl, inr, ⊎-elim}
-use mathlib.Core.Bool.{Bool, true, false, cond}
-use Prim.Native.Nat.{ℕ, _+_, _<_, _≤_}
-use native.Mathlib.Omega.{arith}
-use lib.Dec.{eqb}
+use mathlib.Core.Bool.{Bool, true, false}
+use Prim.Native.Nat.{ℕ, _+_, _<_}
 use Rattle.laws.specs.Decides.{Decides}
 use Rattle.laws.proofs.Numbers.{same-or-not}
-use Rattle.laws.proofs.Tests.{two, not-both, cond-cases}
+use Rattle.laws.proofs.Tests.{two, not-both}
 use Rattle.laws.proofs.Decide.{d-eq, f-eq, d-yes, d-not, d-and, d-unless, d-to}
 use Rattle.net.specs.declared.Flow.{Flow}
 use Rattle.state.specs.declared.Socket.{Socket}

@@ -2,7 +2,7 @@
 -- Assumes nothing.
 use mathlib.Core.Path.{_≡_, ap}
 use mathlib.Core.List.{List}
-use Prim.Native.Nat.{ℕ, _<_, _≤_}
+use Prim.Native.Nat.{ℕ}
 use native.Mathlib.Omega.{arith}
 use Rattle.laws.specs.Decides.{Decides}
 use Rattle.laws.proofs.Decide.{d-eq, f-eq, d-le, d-lt, f-lt, d-yes, d-to, d-and, d-unless, d-cond, d-all}

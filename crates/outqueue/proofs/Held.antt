@@ -6,7 +6,7 @@ use mathlib.Core.Logic.{_⊎_, inl, inr, ⊎-elim}
 use Prim.Native.Nat.{ℕ, _+_, _-_, _*_, _<_, _≤_}
 use native.Mathlib.Omega.{arith}
 use lib.ListN.{length, length-set}
-use Rattle.laws.specs.Places.{part, copies}
+use Rattle.laws.specs.Places.{part}
 use Rattle.laws.proofs.Numbers.{side}
 use Rattle.laws.proofs.Splice.{getD-copies, length-copies, part-part, popped-length, popped-moved, popped-last, popped-else}
 use Rattle.state.specs.declared.Interface.{Interface}

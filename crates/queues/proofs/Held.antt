@@ -6,23 +6,23 @@ use mathlib.Core.Logic.{_≢_, _⊎_, inl, inr, ⊎-elim}
 use mathlib.Core.Bool.{Bool, true, true≢false}
 use Prim.Native.Nat.{ℕ, _+_, _-_, _*_, _<_, _≤_}
 use native.Mathlib.Omega.{arith}
-use lib.ListN.{length, set, getD, length-set}
+use lib.ListN.{length, length-set}
 use lib.Seq.{getD-set-same, getD-set-other}
-use Rattle.laws.specs.Places.{part, splice, copies, popped}
+use Rattle.laws.specs.Places.{part, splice, copies}
 use Rattle.laws.proofs.Numbers.{side, apart}
 use Rattle.laws.proofs.Splice.{getD-else, getD-in, getD-copies, length-copies, length-splice, part-part, popped-length, popped-moved, popped-last, popped-else}
 use Rattle.state.specs.declared.Queued.{Queued}
 use Rattle.state.specs.Places.{noHead, headIn}
 use Rattle.state.proofs.Places.{head-there, head-else}
 use Rattle.store.specs.Store.{slot, zeros, slotWritten, slotsPopped}
-use Rattle.store.specs.Entries.{Entry, entryAt, entries}
+use Rattle.store.specs.Entries.{entries}
 use Rattle.store.proofs.Slots.{written-length, written-else, cleared-length, cleared-else}
 use Rattle.store.proofs.Slots as slots
 use Rattle.store.proofs.Entries.{entries-none, entries-same, entries-push, entries-pop}
 use Rattle.queues.specs.declared.Queues.{Queues}
 use Rattle.queues.specs.Moves.{countAt, headAt, firstHead, noQueues, withHead, withoutFirst, withoutAny, Room, Some}
 use Rattle.queues.specs.Fits.{QueueFit}
-use Rattle.queues.specs.Held.{Datagram, held, oldest, SameQueue, Sized}
+use Rattle.queues.specs.Held.{held, oldest, SameQueue, Sized}
 
 -- ---- the same queue holds the same
 

@@ -5,7 +5,7 @@ use mathlib.Core.List.{List, [], _∷_, _++_}
 use Prim.Native.Nat.{ℕ, _+_, _-_, _*_, _≤_}
 use native.Mathlib.Omega.{arith}
 use lib.ListN.{length, set}
-use Rattle.laws.specs.Places.{part, splice, copies, popped}
+use Rattle.laws.specs.Places.{splice, copies, popped}
 use Rattle.laws.proofs.Splice.{stored-four, part-three}
 use Rattle.state.specs.declared.Queued.{Queued}
 use Rattle.state.specs.Places.{noHead, headIn}

@@ -18,9 +18,9 @@ use Rattle.state.specs.declared.Thread.{Thread}
 use Rattle.state.specs.declared.Thread.the-variants.{Running, Waiting, Ended}
 use Rattle.state.specs.Places.{noSocket, socketIn}
 use Rattle.state.specs.Interfaces.{own, ours}
-use Rattle.state.specs.Sockets.{chained, localKnown, errorKnown, blank, socketOk, socketsOk, overlap, compatible, earlier, apartAt, allApart, openAt}
+use Rattle.state.specs.Sockets.{chained, localKnown, blank, socketOk, socketsOk, overlap, compatible, earlier, allApart, openAt}
 use Rattle.state.specs.Threads.{boundAt, threadOk, waiting}
-use Rattle.state.specs.Plain.{Chained, LocalKnown, ErrorKnown, SocketFit, Overlap, Apart, Bound, Awaited}
+use Rattle.state.specs.Plain.{Chained, LocalKnown, SocketFit, Overlap, Apart, Bound, Awaited}
 
 -- below i where a thing is in use, for none where it is not
 d-earlier : {u : Bool} {f : ℕ → Bool} {i : ℕ} {U : Type 0} {P : ℕ → Type 0} → Decides u U → (U → (j : ℕ) → j < i → Decides (f j) (P j))

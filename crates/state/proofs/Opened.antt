@@ -3,18 +3,18 @@
 use mathlib.Core.Path.{_≡_, refl, sym, ap, _∙_}
 use mathlib.Core.List.{List}
 use mathlib.Core.Logic.{_≢_, _⊎_, inl, inr, ⊎-elim}
-use mathlib.Core.Bool.{Bool, true, false, _&&_}
+use mathlib.Core.Bool.{true, false}
 use Prim.Native.Nat.{ℕ, zero, suc, _<_, _≤_}
 use native.Mathlib.Omega.{arith}
 use Rattle.laws.specs.Decides.{Decides}
-use Rattle.laws.proofs.Numbers.{side, apart, same-or-not}
+use Rattle.laws.proofs.Numbers.{apart, same-or-not}
 use Rattle.laws.proofs.Tests.{two, not-both}
-use Rattle.laws.proofs.Decide.{d-eq, f-eq, d-le, d-lt, f-lt, d-yes, f-yes, f-to, d-to, d-not, f-not, d-and, d-or, f-absurd, d-unless, d-cond, d-all}
-use Rattle.net.specs.Address.{loopback, martian, stray, agree}
-use Rattle.net.proofs.Address.{agree-refl, agree-sym, agree-trans}
+use Rattle.laws.proofs.Decide.{d-eq, f-eq, d-le, d-lt, f-lt, d-yes, d-to, d-not, f-not, d-and, d-or, f-absurd, d-unless, d-cond, d-all}
+use Rattle.net.specs.Address.{loopback, martian, agree}
+use Rattle.net.proofs.Address.{agree-sym, agree-trans}
 use Rattle.state.specs.declared.Interface.{Interface}
 use Rattle.state.specs.Places.{interfaceIn, noInterface}
-use Rattle.state.specs.Interfaces.{addressOf, idKnown, addressed, member, inOneNet, distinctWithin, acceptable, usable, interfaceOk, blank, fits, holds, lacks, pairApart, placeOk, openingOk}
+use Rattle.state.specs.Interfaces.{addressOf, addressed, inOneNet, distinctWithin, acceptable, usable, interfaceOk, blank, holds, pairApart, placeOk, openingOk}
 use Rattle.state.specs.Plain.{HasAt, Addressed, Opened}
 
 -- ---- a place that is not in use

@@ -3,21 +3,19 @@
 use mathlib.Core.Path.{_≡_, refl, sym, ap, _∙_}
 use mathlib.Core.List.{List}
 use mathlib.Core.Logic.{_≢_, _⊎_, inl, inr, ⊎-elim}
-use mathlib.Core.Bool.{Bool, true, false}
-use Prim.Native.Nat.{ℕ, zero, suc, _<_, _≤_}
+use mathlib.Core.Bool.{true, false}
+use Prim.Native.Nat.{ℕ, zero, suc, _<_}
 use native.Mathlib.Omega.{arith}
 use Rattle.laws.specs.Decides.{Decides}
-use Rattle.laws.specs.Below.{lowest}
 use Rattle.laws.proofs.Numbers.{side}
-use Rattle.laws.proofs.Tests.{not-both}
-use Rattle.laws.proofs.Below.{lowest-upto, lowest-passes, lowest-before}
+use Rattle.laws.proofs.Below.{lowest-passes, lowest-before}
 use Rattle.laws.proofs.Decide.{d-yes, f-eq, d-not, d-and, d-or, d-to}
 use Rattle.net.specs.Address.{loopback, martian}
 use Rattle.state.specs.declared.Interface.{Interface}
 use Rattle.state.specs.Places.{interfaceIn, noInterface}
-use Rattle.state.specs.Interfaces.{addressOf, holds, own, ours, holder}
-use Rattle.state.specs.Plain.{HasAt, Opened}
-use Rattle.state.proofs.Opened.{Has, holds-is}
+use Rattle.state.specs.Interfaces.{addressOf, holds, own, holder}
+use Rattle.state.specs.Plain.{Opened}
+use Rattle.state.proofs.Opened.{holds-is}
 
 -- an address of ours stands with one of the four interfaces
 pub record Own (is : List Interface) (a : ℕ) : Type 0 where

@@ -4,13 +4,12 @@ use mathlib.Core.Path.{_≡_}
 use mathlib.Core.List.{List}
 use mathlib.Core.Logic.{_≢_}
 use Prim.Native.Nat.{ℕ, _<_}
-use lib.ListN.{length, getD, set}
+use lib.ListN.{length, set}
 use lib.Seq.{getD-set-same, getD-set-other}
-use Rattle.state.specs.declared.Interface.{Interface}
 use Rattle.state.specs.declared.Socket.{Socket}
 use Rattle.state.specs.declared.Queued.{Queued}
 use Rattle.state.specs.declared.OutItem.{OutItem}
-use Rattle.state.specs.Places.{interfaceIn, socketIn, headIn, itemIn}
+use Rattle.state.specs.Places.{socketIn, headIn, itemIn}
 
 pub socket-there : (ks : List Socket) (k : ℕ) (s : Socket) → k < length ks → socketIn (set ks k s) k ≡ s
 socket-there ks k s l = getD-set-same ks k s _ l

@@ -1,9 +1,8 @@
 -- `binding::port_for` meets its contract.
 -- Assumes nothing.
-use mathlib.Core.Path.{ap, _∙_}
+use mathlib.Core.Path.{ap}
 use borrow.Author.Tests.{eq-eqb, ne-eqb}
 use Prim.Native.Nat.{ℕ}
-use Rattle.net.specs.declared.Port.{Port}
 use borrow.Author.Needs.{needs}
 use Rattle.binding.proofs.port_for.Statement.{statement}
 use Rattle.binding.proofs.port_for.Tie as tie

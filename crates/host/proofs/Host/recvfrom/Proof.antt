@@ -18,7 +18,7 @@ returns c = rw (c .refused .ensures) (refuses _ _ _ _ (c .before .before .call-r
 
 returns-2 : tie.Need-returns-2
 unfolding received
-returns-2 c = passes _ _ _ _ (c .before .before .before .before .before .before .before .call-rows .ensures) (c .before .before .before .before .before .before .if1 .left) (simp (ne-eqb _ _ (rw (c .before .before .before .before .socket-at .ensures) at (c .before .before .if2 .taken)), c .before .without-error .ensures, c .numbered .ensures))
+returns-2 c = passes _ _ _ _ (c .before .before .before .before .before .before .before .call-rows .ensures) (c .before .before .before .before .before .before .if1 .left) (simp (ne-eqb _ _ (rw (c .before .before .before .before .socket-at .ensures) at (c .before .before .if2 .taken)), c .before .without-error .ensures, c .refused2 .ensures))
 
 returns-3 : tie.Need-returns-3
 unfolding received
@@ -26,15 +26,15 @@ returns-3 c = passes _ _ _ _ (c .before .before .before .before .before .before 
 
 returns-4 : tie.Need-returns-4
 unfolding received
-returns-4 c = passes _ _ _ _ (c .before .before .before .before .before .before .before .before .before .call-rows .ensures) (c .before .before .before .before .before .before .before .before .if1 .left) (simp (eq-eqb _ _ (rw (c .before .before .before .before .before .before .socket-at .ensures) at (c .before .before .before .before .if2 .left)), eq-eqb _ _ (rw (c .before .before .before .held-by .ensures) at (c .before .before .if3 .left)), c .before .if4 .taken, c .refused2 .ensures))
+returns-4 c = passes _ _ _ _ (c .before .before .before .before .before .before .before .before .before .call-rows .ensures) (c .before .before .before .before .before .before .before .before .if1 .left) (simp (eq-eqb _ _ (rw (c .before .before .before .before .before .before .socket-at .ensures) at (c .before .before .before .before .if2 .left)), eq-eqb _ _ (rw (c .before .before .before .held-by .ensures) at (c .before .before .if3 .left)), c .before .if4 .taken, c .refused3 .ensures))
 
 returns-5 : tie.Need-returns-5
 unfolding received
-returns-5 c = passes _ _ _ _ (c .before .before .before .before .before .before .before .before .before .before .call-rows .ensures) (c .before .before .before .before .before .before .before .before .before .if1 .left) (simp (eq-eqb _ _ (rw (c .before .before .before .before .before .before .before .socket-at .ensures) at (c .before .before .before .before .before .if2 .left)), eq-eqb _ _ (rw (c .before .before .before .before .held-by .ensures) at (c .before .before .before .if3 .left)), c .before .before .if4 .left) (rw (c .before .wait-on .ensures, c .numbered2 .ensures)))
+returns-5 c = passes _ _ _ _ (c .before .before .before .before .before .before .before .before .before .before .call-rows .ensures) (c .before .before .before .before .before .before .before .before .before .if1 .left) (simp (eq-eqb _ _ (rw (c .before .before .before .before .before .before .before .socket-at .ensures) at (c .before .before .before .before .before .if2 .left)), eq-eqb _ _ (rw (c .before .before .before .before .held-by .ensures) at (c .before .before .before .if3 .left)), c .before .before .if4 .left) (rw (c .before .wait-on .ensures, c .numbered .ensures)))
 
--- cast-k, call-rows-requires, refused-requires, returns, socket-at-requires, without-error-requires, numbered-requires-2, returns-2,
--- held-by-requires, take-oldest-requires, same-length, same-length-2, returns-3, numbered-requires-3, returns-4, wait-on-requires,
--- numbered-requires-4, returns-5
+-- cast-k, call-rows-requires, refused-requires, returns, socket-at-requires, without-error-requires, refused-requires-2, returns-2,
+-- held-by-requires, take-oldest-requires, same-length, same-length-2, returns-3, refused-requires-3, returns-4, wait-on-requires,
+-- numbered-requires, returns-5
 pub recvfrom-spec : {M : Type 1} → statement M
 recvfrom-spec =
     tie.close

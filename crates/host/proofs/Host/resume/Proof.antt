@@ -1,7 +1,6 @@
 -- `host::Host::resume` meets its contract.
 -- Assumes nothing.
 use mathlib.Core.Path.{refl}
-use Prim.Native.Nat.{_<_}
 use lib.ListN.{length}
 use Rattle.host.specs.Reading.{resumed}
 use Rattle.host.proofs.Refusals.{refuses, passes}

@@ -18,13 +18,13 @@ returns c = rw (c .refused .ensures) (refuses _ _ _ _ (c .before .before .call-r
 
 returns-2 : tie.Need-returns-2
 unfolding sent
-returns-2 c = passes _ _ _ _ (c .before .before .before .before .before .before .before .call-rows .ensures) (c .before .before .before .before .before .before .if1 .left) (simp (ne-eqb _ _ (rw (c .before .before .before .before .socket-at .ensures) at (c .before .before .if2 .taken)), c .before .without-error .ensures, c .numbered .ensures))
+returns-2 c = passes _ _ _ _ (c .before .before .before .before .before .before .before .call-rows .ensures) (c .before .before .before .before .before .before .if1 .left) (simp (ne-eqb _ _ (rw (c .before .before .before .before .socket-at .ensures) at (c .before .before .if2 .taken)), c .before .without-error .ensures, c .refused2 .ensures))
 
 returns-3 : tie.Need-returns-3
 unfolding sent
 returns-3 c = passes _ _ _ _ (c .before .before .before .before .before .before .before .before .before .call-rows .ensures) (c .before .before .before .before .before .before .before .before .if1 .left) (simp (eq-eqb _ _ (rw (c .before .before .before .before .before .before .socket-at .ensures) at (c .before .before .before .before .if2 .left))) (c .before .before .queue-out .ensures))
 
--- cast-k, call-rows-requires, refused-requires, returns, socket-at-requires, without-error-requires, numbered-requires-2, returns-2,
+-- cast-k, call-rows-requires, refused-requires, returns, socket-at-requires, without-error-requires, refused-requires-2, returns-2,
 -- queue-out-requires, same-length, returns-3
 pub sendto-spec : {M : Type 1} → statement M
 sendto-spec =
