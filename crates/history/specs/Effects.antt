@@ -3,6 +3,7 @@ use mathlib.Core.Path.{_≡_}
 use mathlib.Core.List.{List, []}
 use mathlib.Core.Logic.{_≢_}
 use Prim.Native.Nat.{ℕ, _≤_}
+use Rattle.host.specs.declared.Host.{Host}
 use Rattle.host.specs.Answers.{Outcome}
 use Rattle.history.specs.Steps.{World, Step, socket, bind, connect, disconnect, getsockname, getpeername, geterr, getopt, setopt, sendto, recvfrom, resume, interrupt, poll, close, exit}
 
@@ -34,3 +35,9 @@ pub record Unchanged (w : World) (b : List ℕ) (o : Outcome) : Type 0 where
 -- every number from 1 to 17 leaves record, store and buffer untouched; 10 is the exception
 pub record Refusal (w : World) (b : List ℕ) (o : Outcome) : Type 0 where
   pub untouched : 1 ≤ o .answer .number → o .answer .number ≤ 17 → o .answer .number ≢ 10 → Unchanged w b o
+
+-- 10 leaves the host m, and store and buffer as they were
+pub record Told (w : World) (m : Host) (b : List ℕ) (o : Outcome) : Type 0 where
+  pub host : o .host ≡ m
+  pub bytes : o .bytes ≡ w .bytes
+  pub lent : o .lent ≡ b
