@@ -9,7 +9,7 @@ ghost use Prim.Native.Nat.{_-_, _≤_, _<_};
 ghost use lib.ListN.{length};
 ghost use Rattle.laws.specs.Places.{popped};
 ghost use Rattle.state.specs.Places.{noItem};
-ghost use Rattle.outqueue.specs.Moves.{sourceOf, datagramOf, noticeOf, noItems, withItem, withoutFirst, left, added, removed, Room, Some};
+ghost use Rattle.outqueue.specs.Moves.{sourceOf, destinationOf, datagramOf, noticeOf, noItems, withItem, withoutFirst, left, added, removed, Room, Some};
 ghost use Rattle.outqueue.specs.Fits.{emptyItem, itemOkOf, itemFits, outOk};
 
 // Item i is the i-th oldest; its payload is the slot of 512 bytes at byte 32,768 + 512 * i.
@@ -35,6 +35,13 @@ pub fn source(x: OutItem) -> u32
     ensures { λ r. ⌜ r ≡ sourceOf x ⌝ }
 {
     if x.kind == 0 { x.flow.src } else { x.flow.dst }
+}
+
+// And to its source.
+pub fn destination(x: OutItem) -> u32
+    ensures { λ r. ⌜ r ≡ destinationOf x ⌝ }
+{
+    if x.kind == 0 { x.flow.dst } else { x.flow.src }
 }
 
 fn is_empty_item(x: OutItem) -> bool

@@ -2,6 +2,7 @@
 use Prim.Native.Nat.{ℕ, _+_, _-_, _*_, _<_, _≤_}
 use mathlib.Core.Path.{_≡_}
 use mathlib.Core.List.{List, []}
+use mathlib.Core.Bool.{Bool, false, cond}
 use lib.ListN.{length, getD, set}
 use Rattle.laws.specs.Places.{part, splice, copies, popped}
 use Rattle.net.specs.declared.Flow.{Flow}
@@ -53,6 +54,15 @@ pub record Left : Type 0 where
 
 abbrev pub left : Queues → List ℕ → List ℕ → Left
 left q s b = record { queues = q; bytes = s; lent = b }
+
+-- the bytes of a datagram: the lent payload or, from inside, the first len bytes of the out-queue's oldest slot
+abbrev pub carried : List ℕ → List ℕ → ℕ → Bool → List ℕ
+carried s p len inside = cond inside (part s 32768 len) p
+
+-- they fit a slot
+pub record Carriable (p : List ℕ) (len : ℕ) (inside : Bool) : Type 0 where
+  pub small : len ≤ 512
+  pub lent : inside ≡ false → length p ≤ 512
 
 -- the payload p with the head h, behind those of socket k
 abbrev pub pushed : Queues → List ℕ → ℕ → Queued → List ℕ → Left

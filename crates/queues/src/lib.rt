@@ -1,5 +1,4 @@
 // The sockets' queues: heads and counts in the record, payloads in the lent store. No move here is given a socket.
-use net::Flow;
 use net::InterfaceId;
 use state::Queued;
 use state::Socket;
@@ -7,9 +6,9 @@ ghost use mathlib.Core.Path.{_≡_};
 ghost use mathlib.Core.List.{[]};
 ghost use Prim.Native.Nat.{_+_, _≤_, _<_};
 ghost use lib.ListN.{length};
-ghost use Rattle.laws.specs.Places.{part};
 ghost use Rattle.state.specs.Places.{noHead};
-ghost use Rattle.queues.specs.Moves.{countAt, firstHead, headOf, noQueues, withHead, withoutFirst, left, pushed, taken, cleared, emptied, Room, Some};
+ghost use Rattle.store.specs.Store.{slotWritten};
+ghost use Rattle.queues.specs.Moves.{countAt, firstHead, noQueues, withHead, withoutFirst, carried, Carriable, left, pushed, taken, cleared, emptied, Room, Some};
 ghost use Rattle.queues.specs.Fits.{emptyHead, headFits, queueFits, queuesOk};
 
 // Socket k's queue is the heads from 4 * k, oldest first, and the four slots of 512 bytes from byte 2,048 * k.
@@ -87,6 +86,19 @@ impl Queues {
 
 // ---- the moves
 
+// Fills the slot at byte at: with the lent payload or, from inside, with the len bytes of the out-queue's oldest item.
+// From inside the payload is not looked at.
+fn fill(store: &mut [u8], at: usize, payload: &[u8], len: usize, inside: bool)
+    requires { ⌜ (at + 512 ≤ 32768) × (length (now store) ≡ 40960) × Carriable (now payload) len inside ⌝ }
+    ensures { λ _. ⌜ now (store .exit) ≡ slotWritten (now (store .entry)) at (carried (now (store .entry)) (now (payload .entry)) len inside) ⌝ }
+{
+    if inside {
+        store::slot_copy(store, at, 32768, len);
+        return;
+    }
+    store::slot_write(store, at, payload);
+}
+
 impl Queues {
     pub fn empty() -> Queues
         ensures { λ r. ⌜ r ≡ noQueues ⌝ }
@@ -109,46 +121,20 @@ impl Queues {
         q
     }
 
-    // A datagram behind those of socket k (000, delivery.in.udp.1).
-    pub fn push(
-        self,
-        store: &mut [u8],
-        k: usize,
-        flow: Flow,
-        iface: InterfaceId,
-        payload: &[u8],
-    ) -> Queues
+    // A datagram with the head h behind those of socket k (000, delivery.in.udp.1, and delivery.loopback.udp.1 from inside).
+    pub fn push(self, store: &mut [u8], k: usize, h: Queued, payload: &[u8], inside: bool) -> Queues
         requires { ⌜ Room self (now store) k ⌝ }
-        requires { ⌜ length (now payload) ≤ 512 ⌝ }
-        ensures { λ r. ⌜ left r (now (store .exit)) [] ≡ pushed self (now (store .entry)) k (headOf flow iface (length (now (payload .entry)))) (now (payload .entry)) ⌝ }
+        requires { ⌜ Carriable (now payload) (h .len) inside ⌝ }
+        ensures { λ r. ⌜ left r (now (store .exit)) [] ≡ pushed self (now (store .entry)) k h (carried (now (store .entry)) (now (payload .entry)) (h .len) inside) ⌝ }
     {
         let n = self.counts[k];
-        store::slot_write(store, 2048 * k + 512 * n as usize, payload);
-        let h = Queued {
-            flow,
-            len: payload.len() as u16,
-            iface,
-        };
-        self.with_head(k, h)
-    }
-
-    // The same, with the len bytes of the slot at byte from, behind every queue (000, delivery.loopback.udp.1).
-    pub fn push_from(
-        self,
-        store: &mut [u8],
-        k: usize,
-        flow: Flow,
-        iface: InterfaceId,
-        from: usize,
-        len: u16,
-    ) -> Queues
-        requires { ⌜ Room self (now store) k ⌝ }
-        requires { ⌜ (len ≤ 512) × (32768 ≤ from) × (from + 512 ≤ 40960) ⌝ }
-        ensures { λ r. ⌜ left r (now (store .exit)) [] ≡ pushed self (now (store .entry)) k (headOf flow iface len) (part (now (store .entry)) from len) ⌝ }
-    {
-        let n = self.counts[k];
-        store::slot_copy(store, 2048 * k + 512 * n as usize, from, len as usize);
-        let h = Queued { flow, len, iface };
+        fill(
+            store,
+            2048 * k + 512 * n as usize,
+            payload,
+            h.len as usize,
+            inside,
+        );
         self.with_head(k, h)
     }
 
