@@ -94,8 +94,8 @@ looped ks q o s w small {d} {t} {u} {rest} {may} first next from last =
     let eu : u ≡ slotsPopped t 32768 (o .count) = ap (λ (l : Left). l .bytes) next in
     let er : rest ≡ withoutFirst o = ap (λ (l : Left). l .out) next in
     let ed : delivered d (slotsPopped t 32768 (o .count)) ≡ delivering ks q (slotsPopped s 32768 (o .count)) (loopHead x) (part s 32768 (x .len)) =
-        ap (gone ks q s (loopHead x) (part s 32768 (x .len)) (o .count) (w .store) size (w .some) (w .few)) first
-        ∙ delivering-gone ks q s (loopHead x) (part s 32768 (x .len)) (o .count) (w .store) size (w .some) (w .few) in
+    ap (gone ks q s (loopHead x) (part s 32768 (x .len)) (o .count) (w .store) size (w .some) (w .few)) first
+    ∙ delivering-gone ks q s (loopHead x) (part s 32768 (x .len)) (o .count) (w .store) size (w .some) (w .few) in
     last
     ∙ ap (λ (v : List ℕ). settled (delivered d v) rest (x .flow) may) eu
     ∙ ap (λ (v : Delivered). settled v rest (x .flow) may) ed

@@ -15,10 +15,11 @@ use Rattle.laws.proofs.Tests.{cond-cases, and-left, and-right}
 use Rattle.state.specs.declared.Interface.{Interface}
 use Rattle.state.specs.declared.Thread.{Thread}
 use Rattle.state.specs.declared.Thread.the-variants.{Running, Waiting, Ended}
-use Rattle.state.specs.Interfaces.{openingOk}
+use Rattle.state.specs.Interfaces.{openingOk, own}
 use Rattle.state.specs.Threads.{ended, waiting}
 use Rattle.state.specs.Plain.{Awaited}
 use Rattle.state.proofs.Fits.{open-is}
+use Rattle.net.specs.declared.Flow.{Flow}
 use Rattle.net.specs.declared.Port.{Port}
 use Rattle.store.specs.Store.{zeros}
 use Rattle.queues.specs.Moves.{firstHead}
@@ -31,6 +32,8 @@ use Rattle.host.specs.Entered.{Ready, RunningIn, Called, Holding}
 use Rattle.host.specs.Opening.{emptyHost, endedHost, openingRefusal, opened}
 use Rattle.host.specs.Sending.{sendRows}
 use Rattle.host.specs.Reading.{resumeRefusal, awaitedBy}
+use Rattle.host.specs.Arrivals.{datagramRows, noticeRows}
+use Rattle.host.specs.Emitting.{outRows, oldestItem, Leaving}
 use Rattle.host.proofs.Form.{formed-is}
 
 -- ---- any table
@@ -115,3 +118,29 @@ holds-some {h} {size} {k} w =
     let some = positive (countAt h k) (w .some) in
     let e : 4 * k + 0 ≡ 4 * k = omega arith in
     (some, w .ready .formed .counts k (w .small), rw e at (w .ready .formed .queued k 0 (w .small) (omega arith)))
+
+-- ---- arrivals and the out step
+
+-- an arriving datagram: record and store are fine, and the payload fits a slot
+pub arrivable : (h : Host) (room : ℕ) (f : Flow) (len : ℕ) {n : ℕ} → n ≡ first (datagramRows h room f len) → n ≡ 0 → Ready h room × (own (h .interfaces) (f .dst) ≡ true) × (len ≤ 512)
+arrivable h room f len e z =
+    let p = rows-passed (datagramRows h room f len) 0 refl (sym e ∙ z) in
+    (ready-is h room (p .0 .0, (p .0 .1 .0, tt)), not-false _ (p .0 .1 .1 .0), ltb-false _ _ (p .0 .1 .1 .1 .1 .0))
+
+pub noticeable : (h : Host) (room src dst : ℕ) (f : Flow) {n : ℕ} → n ≡ first (noticeRows h room src dst f) → n ≡ 0 → Ready h room
+noticeable h room src dst f e z = let p = rows-passed (noticeRows h room src dst f) 0 refl (sym e ∙ z) in ready-is h room (p .0 .0, (p .0 .1 .0, tt))
+
+-- the out step: there is an item, and the buffer is long enough
+pub leavable : (h : Host) (s : List ℕ) (lent : ℕ) {n : ℕ} → n ≡ first (outRows h (length s) lent) → n ≡ 0 → Leaving h s lent
+leavable h s lent e z =
+    let p = rows-passed (outRows h (length s) lent) 0 refl (sym e ∙ z) in
+    let r = ready-is h (length s) (p .0 .0, (p .0 .1 .0, tt)) in
+    record {
+      ready = r;
+      some = record { some = positive (h .out .count) (eqb-false _ _ (p .0 .1 .1 .1 .0)); few = r .formed .outcount; store = r .room };
+      room = ltb-false _ _ (p .0 .1 .1 .0);
+    }
+
+-- its oldest item's payload fits a slot
+pub oldest-small : {h : Host} {s : List ℕ} {lent : ℕ} → Leaving h s lent → oldestItem h .len ≤ 512
+oldest-small w = w .ready .formed .sent 0 (w .some .some)

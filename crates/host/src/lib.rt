@@ -1,5 +1,7 @@
 // The host's record, what a step gives back, and the checks that every step begins with. The calls stand in the modules.
+use delivery::Landing;
 use net::Descriptor;
+use net::Flow;
 use net::Port;
 use outqueue::OutQueue;
 use queues::Queues;
@@ -11,15 +13,18 @@ use state::Thread;
 ghost use mathlib.Core.Path.{_≡_};
 ghost use mathlib.Core.Bool.{cond};
 ghost use Rattle.state.specs.Places.{socketIn};
+ghost use Rattle.host.specs.Arrivals.{landedStep, heardStep};
 ghost use Rattle.host.specs.Form.{wellFormed, countAt};
 ghost use Rattle.host.specs.Answers.{plain, unchanged, told, named, valued, needing, readOf};
 ghost use Rattle.host.specs.Moves.{withSocket, withQueues, withOut, withThread};
 ghost use Rattle.host.specs.Naming.{sourceFor};
 ghost use Rattle.host.specs.Options.{withoutError};
 ghost use Rattle.host.specs.Sending.{autobound};
-ghost use Rattle.host.specs.Tables.{firstOr, aliveRows, entryRows, callRows};
+ghost use Rattle.host.specs.Tables.{firstOr, readyRows, aliveRows, entryRows, callRows};
 
+pub mod arrivals;
 pub mod closing;
+pub mod emitting;
 pub mod naming;
 pub mod opening;
 pub mod options;
@@ -253,16 +258,46 @@ impl Host {
         }
     }
 
+    // What became of a datagram.
+    fn landed(self, l: Landing) -> Stepped
+        ensures { λ r. ⌜ r ≡ landedStep self (l .queues) (l .out) (l .number) (l .at) ⌝ }
+    {
+        let queues = l.queues;
+        let out = l.out;
+        let h = self.with_queues(queues);
+        Stepped {
+            host: h.with_out(out),
+            answer: with_descriptor(l.number, l.at),
+        }
+    }
+
+    // The socket that sent what the notice embeds hears of it.
+    fn heard(self, flow: Flow) -> Stepped
+        ensures { λ r. ⌜ r ≡ heardStep self flow ⌝ }
+    {
+        let sockets = self.sockets;
+        let w = delivery::hear(sockets, flow);
+        if w.number == 27 {
+            let s = socket_at(sockets, w.at);
+            let h = self.with_socket(w.at, binding::with_error(s, 10));
+            return h.refused(27);
+        }
+        self.refused(w.number)
+    }
+
+    // Rows 1 and 2, then the step's own.
+    fn ready_rows(self, room: usize, rest: u8) -> u8
+        ensures { λ r. ⌜ r ≡ firstOr (readyRows self room) rest ⌝ }
+    {
+        row(!self.well_formed(), 1, row(room != 40960, 2, rest))
+    }
+
     // Rows 1 to 3, then the step's own.
     fn alive_rows(self, room: usize, rest: u8) -> u8
         ensures { λ r. ⌜ r ≡ firstOr (aliveRows self room) rest ⌝ }
     {
         let t = self.thread;
-        row(
-            !self.well_formed(),
-            1,
-            row(room != 40960, 2, row(state::threads::is_ended(t), 3, rest)),
-        )
+        self.ready_rows(room, row(state::threads::is_ended(t), 3, rest))
     }
 
     // Rows 1 to 4, then the step's own.

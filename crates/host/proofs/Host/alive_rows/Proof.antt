@@ -4,7 +4,7 @@ use borrow.Author.Needs.{needs}
 use Rattle.host.proofs.Host.alive_rows.Statement.{statement}
 use Rattle.host.proofs.Host.alive_rows.Tie as tie
 
--- well-formed-requires, is-ended-requires, row-requires, row-requires-2, row-requires-3, returns
+-- is-ended-requires, row-requires, ready-rows-requires, returns
 pub alive-rows-spec : {M : Type 1} → statement M
 alive-rows-spec =
-    tie.close (tie.spec (λ c κs. search needs) (λ c κs. search needs) (λ c κs. search needs) (λ c κs. search needs) (λ c κs. search needs) (λ c. cc))
+    tie.close (tie.spec (λ c κs. search needs) (λ c κs. search needs) (λ c κs. search needs) (λ c. cc))
