@@ -1,7 +1,6 @@
 -- What becomes of a datagram: document 01, "Who gets a datagram", from outside and from inside alike
-use Prim.Native.Nat.{ℕ, _+_, _*_, _≤_}
-use mathlib.Core.Path.{_≡_}
-use mathlib.Core.List.{List, []}
+use Prim.Native.Nat.{ℕ}
+use mathlib.Core.List.{List, [], _∷_}
 use mathlib.Core.Bool.{Bool, true, _&&_, cond}
 use lib.Dec.{ltb, eqb}
 use lib.ListN.{length}
@@ -16,8 +15,10 @@ use Rattle.store.specs.Store.{slotsPopped}
 use Rattle.matching.specs.Scores.{bestOf}
 use Rattle.queues.specs.declared.Queues.{Queues}
 use Rattle.queues.specs.Moves.{countAt, headOf, pushed}
+use Rattle.queues.specs.Held.{Datagram}
 use Rattle.outqueue.specs.declared.OutQueue.{OutQueue}
 use Rattle.outqueue.specs.Moves.{itemAt, noticeOf, added, withoutFirst}
+use Rattle.outqueue.specs.Held.{Parcel}
 use Rattle.delivery.specs.declared.Delivery.{Delivery}
 use Rattle.delivery.specs.declared.Queueing.{Queueing}
 use Rattle.delivery.specs.declared.Landing.{Landing}
@@ -102,3 +103,13 @@ loopHead x = headOf (x .flow) (record { 0 = 0 }) (x .len)
 abbrev pub looping : List Socket → Queues → OutQueue → List ℕ → Landed
 looping ks q o s =
     landing ks q (withoutFirst o) (slotsPopped s 32768 (o .count)) (loopHead (itemAt o 0)) (part s 32768 (itemAt o 0 .len)) (loopback (itemAt o 0 .flow .src))
+
+-- ---- what a landing brings
+
+-- to socket j: with 20, and j the winner, the datagram
+abbrev pub brings : Landed → ℕ → Queued → List ℕ → List Datagram
+brings l j h p = cond (eqb (l .number) 20 && eqb j (l .at)) (record { head = h; bytes = p } ∷ []) []
+
+-- to the out-queue: with 22, the notice, whose slot is all zeros
+abbrev pub leavesNotice : ℕ → Flow → List Parcel
+leavesNotice n f = cond (eqb n 22) (record { head = noticeOf 1 f; bytes = [] } ∷ []) []

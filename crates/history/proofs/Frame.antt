@@ -1,4 +1,4 @@
--- A call that neither names a socket nor picks it, doesn't resume its wait and isn't exit, changes neither its record nor its queue.
+-- A step that neither names a socket nor picks it, doesn't resume its wait and isn't exit, changes neither its record nor its queue.
 -- Assumes nothing.
 use mathlib.Core.Path.{_≡_, refl, _∙_}
 use mathlib.Core.List.{List, []}
@@ -37,10 +37,9 @@ use Rattle.host.specs.Closing.{closed}
 use Rattle.host.proofs.Passed.{called, resuming, sendable, holds-some}
 use Rattle.history.specs.Sound.{Sound}
 use Rattle.history.specs.Frame.{Untouched, Named}
-use Rattle.history.specs.Steps.{World, Step, after, socket, bind, connect, disconnect, getsockname, getpeername, geterr, getopt, setopt, sendto, recvfrom, resume, interrupt, poll, close, exit}
-
-same-queue : (q : Queues) (s : List ℕ) (l : ℕ) → SameQueue q s q s l
-same-queue q s l = record { count = refl; heads = λ i m. refl; bytes = refl }
+use Rattle.history.specs.Steps.{World, Step, after, socket, bind, connect, disconnect, getsockname, getpeername, geterr, getopt, setopt, sendto, recvfrom, resume, interrupt, poll, close, exit, datagram, notice, outstep}
+use Rattle.history.proofs.Arrivals.{Quiet, same-queue, datagram-dealt, notice-quiet}
+use Rattle.history.proofs.Outsteps.{outstep-dealt}
 
 module _ (w : World) (l : ℕ) where
   -- the same host and store
@@ -136,23 +135,30 @@ module _ (w : World) (g : Sound (w .host)) (l : ℕ) (hl : l < 16) where
       (λ e. let c = called h (length s) k _ refl e .0 in
       socket-and-queues w l k _ _ _ _ [] d (clear-else (h .queues) (g .queues) s (c .ready .room) k (c .small) l hl d))
 
+-- a notice changes no queue
+quiet-frame : (w : World) (l : ℕ) {picked : ℕ → Type 0} {o : Outcome} → Quiet w picked o → (picked l → ⊥) → Untouched w o l
+quiet-frame w l x d = record { record-same = x .others l d; queue-same = rw (x .queues, x .bytes) (same-queue (w .host .queues) (w .bytes) l) }
+
 -- ---- the theorem
 
-pub call-frame : (w : World) (t : Step) → Sound (w .host) → (l : ℕ) → l < 16 → (Named w t l → ⊥) → Untouched w (after w t) l
+pub step-frame : (w : World) (t : Step) → Sound (w .host) → (l : ℕ) → l < 16 → (Named w t l → ⊥) → Untouched w (after w t) l
 unfolding after socketed bound connected disconnected localGiven peerGiven errorGiven optionGiven optionSet interrupted polledOf
-call-frame w socket g l hl d = either w l _ [] _ (λ e. other-socket w l _ _ _ [] d)
-call-frame w (bind k a p) g l hl d = either w l _ [] _ (λ e. other-socket w l k _ _ [] d)
-call-frame w (connect k a p) g l hl d = either w l _ [] _ (λ e. other-socket w l k _ _ [] d)
-call-frame w (disconnect k) g l hl d = either w l _ [] _ (λ e. other-socket w l k _ _ [] d)
-call-frame w (getsockname k) g l hl d = either w l _ [] _ (λ e. kept w l _ [])
-call-frame w (getpeername k) g l hl d = either w l _ [] _ (λ e. kept w l _ [])
-call-frame w (geterr k) g l hl d = either w l _ [] _ (λ e. other-socket w l k _ _ [] d)
-call-frame w (getopt k o) g l hl d = either w l _ [] _ (λ e. kept w l _ [])
-call-frame w (setopt k o on) g l hl d = either w l _ [] _ (λ e. other-socket w l k _ _ [] d)
-call-frame w (sendto k a p payload) g l hl d = sendto-frame w g l hl k a p payload d
-call-frame w (recvfrom k nonblocking b) g l hl d = recvfrom-frame w g l hl k nonblocking b d
-call-frame w (resume b) g l hl d = resume-frame w g l hl b d
-call-frame w interrupt g l hl d = either w l _ [] _ (λ e. thread-only w l Running _ [])
-call-frame w (poll r v) g l hl d = either w l _ [] _ (λ e. kept w l _ [])
-call-frame w (close k) g l hl d = close-frame w g l hl k d
-call-frame w exit g l hl d = absurd (d tt)
+step-frame w socket g l hl d = either w l _ [] _ (λ e. other-socket w l _ _ _ [] d)
+step-frame w (bind k a p) g l hl d = either w l _ [] _ (λ e. other-socket w l k _ _ [] d)
+step-frame w (connect k a p) g l hl d = either w l _ [] _ (λ e. other-socket w l k _ _ [] d)
+step-frame w (disconnect k) g l hl d = either w l _ [] _ (λ e. other-socket w l k _ _ [] d)
+step-frame w (getsockname k) g l hl d = either w l _ [] _ (λ e. kept w l _ [])
+step-frame w (getpeername k) g l hl d = either w l _ [] _ (λ e. kept w l _ [])
+step-frame w (geterr k) g l hl d = either w l _ [] _ (λ e. other-socket w l k _ _ [] d)
+step-frame w (getopt k o) g l hl d = either w l _ [] _ (λ e. kept w l _ [])
+step-frame w (setopt k o on) g l hl d = either w l _ [] _ (λ e. other-socket w l k _ _ [] d)
+step-frame w (sendto k a p payload) g l hl d = sendto-frame w g l hl k a p payload d
+step-frame w (recvfrom k nonblocking b) g l hl d = recvfrom-frame w g l hl k nonblocking b d
+step-frame w (resume b) g l hl d = resume-frame w g l hl b d
+step-frame w interrupt g l hl d = either w l _ [] _ (λ e. thread-only w l Running _ [])
+step-frame w (poll r v) g l hl d = either w l _ [] _ (λ e. kept w l _ [])
+step-frame w (close k) g l hl d = close-frame w g l hl k d
+step-frame w exit g l hl d = absurd (d tt)
+step-frame w (datagram f p) g l hl d = datagram-dealt w g f p .frame l hl d
+step-frame w (notice src dst f) g l hl d = quiet-frame w l (notice-quiet w g src dst f) d
+step-frame w (outstep b) g l hl d = outstep-dealt w g b .frame l hl d

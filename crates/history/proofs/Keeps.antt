@@ -1,4 +1,4 @@
--- Every call leaves a sound host sound: preservation (000's Theorem 2), a few citations for each.
+-- Every step leaves a sound host sound: preservation (000's Theorem 2), a few citations for each.
 -- Assumes nothing.
 use mathlib.Core.Path.{_≡_, refl, sym, ap, _∙_}
 use mathlib.Core.List.{List, [], _∷_, _++_}
@@ -56,8 +56,10 @@ use Rattle.host.specs.Reading.{oldestTaken, waitingOn, received, resumeRefusal,
 use Rattle.host.proofs.Form.{from-parts}
 use Rattle.host.proofs.Passed.{rows-passed, entered, called, resuming, sendable, holds-some}
 use Rattle.history.specs.Sound.{Sound}
-use Rattle.history.specs.Steps.{World, Step, after, socket, bind, connect, disconnect, getsockname, getpeername, geterr, getopt, setopt, sendto, recvfrom, resume, interrupt, poll, close, exit}
+use Rattle.history.specs.Steps.{World, Step, after, socket, bind, connect, disconnect, getsockname, getpeername, geterr, getopt, setopt, sendto, recvfrom, resume, interrupt, poll, close, exit, datagram, notice, outstep}
 use Rattle.history.proofs.Moves.{parts, fitting, socket-kept, thread-kept, queues-kept, out-kept, nobody-awaited}
+use Rattle.history.proofs.Arrivals.{datagram-dealt, notice-quiet}
+use Rattle.history.proofs.Outsteps.{outstep-dealt}
 
 -- a step that refuses leaves the host as it was
 pub unless-keeps : {h : Host} → Sound h → (n : ℕ) (s b : List ℕ) (o : Outcome) → (n ≡ 0 → Sound (o .host)) → Sound (unless n h s b o .host)
@@ -399,3 +401,6 @@ step-keeps w interrupt g = interrupt-sound (w .host) (w .bytes) g
 step-keeps w (poll r v) g = unless-keeps g _ (w .bytes) [] _ (λ e. g)
 step-keeps w (close k) g = close-sound (w .host) (w .bytes) k g
 step-keeps w exit g = exit-sound (w .host) (w .bytes) g
+step-keeps w (datagram f p) g = datagram-dealt w g f p .sound
+step-keeps w (notice src dst f) g = notice-quiet w g src dst f .sound
+step-keeps w (outstep b) g = outstep-dealt w g b .sound

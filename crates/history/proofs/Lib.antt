@@ -1,5 +1,9 @@
+pub mod Rows
 pub mod Moves
+pub mod Arrivals
+pub mod Outsteps
 pub mod Keeps
 pub mod Frame
 pub mod Effects
 pub mod Order
+pub mod Outgoing

@@ -1,23 +1,30 @@
--- What a socket held is what a call read from it followed by what it holds, unless the call ends it; and a read hands over the oldest.
+-- What a socket held followed by what a step delivers to it is what the step reads from it followed by what it holds, unless the step opens or ends it; and a read hands over the oldest.
 -- Assumes nothing.
 use mathlib.Core.Path.{_≡_, refl, sym, ap, _∙_}
-use mathlib.Core.List.{List, [], _∷_, _++_}
-use mathlib.Core.Bool.{Bool, true, false, _&&_, not, cond}
-use Prim.Native.Nat.{ℕ, _<_}
+use mathlib.Core.List.{List, [], _∷_, _++_, append-nil}
+use mathlib.Core.Logic.{_≢_}
+use mathlib.Core.Bool.{Bool, true, false, _&&_, not, cond, true≢false, false≢true}
+use Prim.Native.Nat.{ℕ, _*_, _<_}
 use native.Mathlib.Omega.{arith}
 use lib.Dec.{eqb, ltb}
 use lib.ListN.{length}
 use borrow.Author.Tests.{eqb-true, eqb-false, not-true}
 use Rattle.laws.specs.Places.{splice}
-use Rattle.laws.proofs.Tests.{cond-cases}
+use Rattle.laws.proofs.Tests.{cond-cases, and-left, and-right}
 use Rattle.net.specs.declared.Port.{Port}
 use Rattle.state.specs.declared.Socket.{Socket}
 use Rattle.state.specs.declared.Thread.{Thread}
 use Rattle.state.specs.declared.Thread.the-variants.{Running}
-use Rattle.state.specs.Places.{noItem}
-use Rattle.queues.specs.Moves.{firstHead, Some}
+use Rattle.state.specs.Places.{noSocket, noItem}
+use Rattle.store.specs.Entries.{entries}
+use Rattle.store.proofs.Entries.{entries-none}
+use Rattle.binding.specs.Sockets.{lowestClosed}
+use Rattle.binding.proofs.Stands.{lowest-closed}
+use Rattle.queues.specs.declared.Queues.{Queues}
+use Rattle.queues.specs.Moves as queue
+use Rattle.queues.specs.Moves.{headAt, firstHead, cleared, Some}
 use Rattle.queues.specs.Held.{Datagram, SameQueue, held}
-use Rattle.queues.proofs.Held.{held-same, elsewhere, take-held, take-length, clear-held, clear-length, emptied-length, empty-held, oldest-head, oldest-bytes}
+use Rattle.queues.proofs.Held.{held-same, elsewhere, take-held, take-length, clear-held, clear-length, clear-else, emptied-length, empty-held, oldest-head, oldest-bytes}
 use Rattle.outqueue.specs.declared.OutQueue.{OutQueue}
 use Rattle.outqueue.specs.Moves.{Room}
 use Rattle.outqueue.proofs.Held.{add-length, add-before}
@@ -27,21 +34,24 @@ use Rattle.host.specs.Form.{socketAt, countAt}
 use Rattle.host.specs.Answers.{Outcome, gives, unless, plain, needing, readOf}
 use Rattle.host.specs.Moves.{withSocket, withQueues, withOut, withThread}
 use Rattle.host.specs.Entered.{Ready, Holding}
-use Rattle.host.specs.Naming.{socketed, bound, connected, disconnected, localGiven, peerGiven}
+use Rattle.host.specs.Tables.{first, entryRows}
+use Rattle.host.specs.Naming.{callRefusal, socketRefusal, socketed, bound, connected, disconnected, localGiven, peerGiven}
 use Rattle.host.specs.Options.{withoutError, errorGiven, optionGiven, optionSet}
 use Rattle.host.specs.Sending.{queuedOut, sent}
 use Rattle.host.specs.Reading.{oldestTaken, waitingOn, received, awaitedBy, resumedOn, resumed, interrupted}
 use Rattle.host.specs.Polling.{polledOf}
 use Rattle.host.specs.Closing.{closed, exited, exitHost}
-use Rattle.host.proofs.Passed.{entered, called, resuming, sendable, holds-some}
+use Rattle.host.proofs.Passed.{rows-passed, entered, called, resuming, sendable, holds-some}
 use Rattle.history.specs.Sound.{Sound}
 use Rattle.history.specs.Frame.{Named}
-use Rattle.history.specs.Order.{holds, firstOf, readBy, Ends, Handed}
-use Rattle.history.specs.Steps.{World, Step, after, socket, bind, connect, disconnect, getsockname, getpeername, geterr, getopt, setopt, sendto, recvfrom, resume, interrupt, poll, close, exit}
-use Rattle.history.proofs.Frame.{call-frame}
+use Rattle.history.specs.Order.{holds, firstOf, readBy, deliveredBy, restarts, Handed}
+use Rattle.history.specs.Steps.{World, Step, after, socket, bind, connect, disconnect, getsockname, getpeername, geterr, getopt, setopt, sendto, recvfrom, resume, interrupt, poll, close, exit, datagram, notice, outstep}
+use Rattle.history.proofs.Arrivals.{datagram-dealt, notice-quiet}
+use Rattle.history.proofs.Outsteps.{outstep-dealt}
+use Rattle.history.proofs.Frame.{step-frame}
 
 -- what a passed table says of a taking
-some-of : {h : Host} {s : List ℕ} {k : ℕ} → Holding h (length s) k → Some (h .queues) s k
+pub some-of : {h : Host} {s : List ℕ} {k : ℕ} → Holding h (length s) k → Some (h .queues) s k
 some-of x = let q = holds-some x in record { small = x .small; some = q .0; few = q .1; store = x .ready .room }
 
 -- ---- the store keeps its length
@@ -94,25 +104,28 @@ module _ (w : World) (g : Sound (w .host)) where
       cond-cases (not (eqb (socketAt h k .error) 0)) _ _ Long (λ x. refl)
       (λ x. cond-cases (not (eqb (countAt h k) 0)) _ _ Long (λ y. taken-long k b Running (record { ready = r .0; small = r .1; some = eqb-false _ _ (not-true _ y) })) (λ y. refl)))
 
-pub call-length : (w : World) (t : Step) → Sound (w .host) → length (after w t .bytes) ≡ length (w .bytes)
+pub step-length : (w : World) (t : Step) → Sound (w .host) → length (after w t .bytes) ≡ length (w .bytes)
 unfolding after socketed bound connected disconnected localGiven peerGiven errorGiven optionGiven optionSet interrupted polledOf closed exited
-call-length w socket g = either-long w g _ [] _ (λ e. refl)
-call-length w (bind k a p) g = either-long w g _ [] _ (λ e. refl)
-call-length w (connect k a p) g = either-long w g _ [] _ (λ e. refl)
-call-length w (disconnect k) g = either-long w g _ [] _ (λ e. refl)
-call-length w (getsockname k) g = either-long w g _ [] _ (λ e. refl)
-call-length w (getpeername k) g = either-long w g _ [] _ (λ e. refl)
-call-length w (geterr k) g = either-long w g _ [] _ (λ e. refl)
-call-length w (getopt k o) g = either-long w g _ [] _ (λ e. refl)
-call-length w (setopt k o on) g = either-long w g _ [] _ (λ e. refl)
-call-length w (sendto k a p payload) g = sendto-long w g k a p payload
-call-length w (recvfrom k nonblocking b) g = recvfrom-long w g k nonblocking b
-call-length w (resume b) g = resume-long w g b
-call-length w interrupt g = either-long w g _ [] _ (λ e. refl)
-call-length w (poll r v) g = either-long w g _ [] _ (λ e. refl)
-call-length w (close k) g =
+step-length w socket g = either-long w g _ [] _ (λ e. refl)
+step-length w (bind k a p) g = either-long w g _ [] _ (λ e. refl)
+step-length w (connect k a p) g = either-long w g _ [] _ (λ e. refl)
+step-length w (disconnect k) g = either-long w g _ [] _ (λ e. refl)
+step-length w (getsockname k) g = either-long w g _ [] _ (λ e. refl)
+step-length w (getpeername k) g = either-long w g _ [] _ (λ e. refl)
+step-length w (geterr k) g = either-long w g _ [] _ (λ e. refl)
+step-length w (getopt k o) g = either-long w g _ [] _ (λ e. refl)
+step-length w (setopt k o on) g = either-long w g _ [] _ (λ e. refl)
+step-length w (sendto k a p payload) g = sendto-long w g k a p payload
+step-length w (recvfrom k nonblocking b) g = recvfrom-long w g k nonblocking b
+step-length w (resume b) g = resume-long w g b
+step-length w interrupt g = either-long w g _ [] _ (λ e. refl)
+step-length w (poll r v) g = either-long w g _ [] _ (λ e. refl)
+step-length w (close k) g =
     either-long w g _ [] _ (λ e. let c = called (w .host) (length (w .bytes)) k _ refl e .0 in clear-length (w .host .queues) (g .queues) (w .bytes) (c .ready .room) k (c .small))
-call-length w exit g = either-long w g _ [] _ (λ e. emptied-length (w .bytes) (entered (w .host) (length (w .bytes)) 0 refl e .0 .ready .room))
+step-length w exit g = either-long w g _ [] _ (λ e. emptied-length (w .bytes) (entered (w .host) (length (w .bytes)) 0 refl e .0 .ready .room))
+step-length w (datagram f p) g = datagram-dealt w g f p .room
+step-length w (notice src dst f) g = ap length (notice-quiet w g src dst f .bytes)
+step-length w (outstep b) g = outstep-dealt w g b .room
 
 -- ---- what a socket held, in order
 
@@ -174,8 +187,8 @@ module _ (w : World) (g : Sound (w .host)) (room : length (w .bytes) ≡ 40960) 
   other-stays t d =
       record {
         same =
-            sym (held-same (w .host .queues) (after w t .host .queues) (w .bytes) (after w t .bytes) l room (call-length w t g ∙ room) hl (g .formed .counts l hl)
-            (call-frame w t g l hl d .queue-same));
+            sym (held-same (w .host .queues) (after w t .host .queues) (w .bytes) (after w t .bytes) l room (step-length w t g ∙ room) hl (g .formed .counts l hl)
+            (step-frame w t g l hl d .queue-same));
       }
 
   socket-stays : (k : ℕ) (x : Socket) (a : Answer) (b : List ℕ) → Stays w l (gives (withSocket (w .host) k x) a (w .bytes) b)
@@ -186,6 +199,16 @@ module _ (w : World) (g : Sound (w .host)) (room : length (w .bytes) ≡ 40960) 
   out-stays : (k : ℕ) (x : Socket) (o : OutQueue) (a : Answer) (t b : List ℕ) → length t ≡ 40960 → SameQueue (w .host .queues) (w .bytes) (w .host .queues) t l → Stays w l (gives (withOut (withSocket (w .host) k x) o) a t b)
   unfolding withOut withSocket
   out-stays k x o a t b n e = record { same = sym (held-same (w .host .queues) (w .host .queues) (w .bytes) t l room n hl (g .formed .counts l hl) e) }
+
+  -- another queue cleared
+  cleared-stays : (k : ℕ) → k < 16 → l ≢ k → Stays w l (gives (withQueues (withSocket (w .host) k noSocket) (cleared (w .host .queues) (w .bytes) k .queues)) (plain 0) (cleared (w .host .queues) (w .bytes) k .bytes) [])
+  unfolding withQueues withSocket
+  cleared-stays k hk d =
+      record {
+        same =
+            sym (held-same (w .host .queues) _ (w .bytes) _ l room (clear-length (w .host .queues) (g .queues) (w .bytes) room k hk ∙ room) hl (g .formed .counts l hl)
+            (clear-else (w .host .queues) (g .queues) (w .bytes) room k hk l hl d));
+      }
 
   queued-stays : (k a : ℕ) (p : Port) (payload : List ℕ) → Ready (w .host) (length (w .bytes)) → Stays w l (queuedOut (w .host) (w .bytes) k a p payload)
   unfolding queuedOut
@@ -202,27 +225,46 @@ module _ (w : World) (g : Sound (w .host)) (room : length (w .bytes) ≡ 40960) 
       either-stays _ [] _
       (λ e. cond-cases (eqb (socketAt (w .host) k .error) 0) _ _ (Stays w l) (λ x. queued-stays k a p payload (called (w .host) (length (w .bytes)) k _ refl e .0 .ready)) (λ x. socket-stays k _ _ []))
 
-pub call-reads : (w : World) (t : Step) → Sound (w .host) → length (w .bytes) ≡ 40960 → (l : ℕ) → l < 16 → (Ends t l → ⊥) → holds w l ≡ readBy w t l ++ held (after w t .host .queues) (after w t .bytes) l
+-- a close that is refused, or of another socket
+close-stays : (w : World) (g : Sound (w .host)) (room : length (w .bytes) ≡ 40960) (l : ℕ) (hl : l < 16) (k : ℕ) → (eqb (closed (w .host) (w .bytes) k .answer .number) 0 && eqb l k) ≡ false → Stays w l (closed (w .host) (w .bytes) k)
+unfolding closed unless
+close-stays w g room l hl k =
+    cond-cases (eqb (callRefusal (w .host) (length (w .bytes)) k) 0) _ _ (λ (o : Outcome). (eqb (o .answer .number) 0 && eqb l k) ≡ false → Stays w l o)
+    (λ e d. let c = called (w .host) (length (w .bytes)) k _ refl (eqb-true _ _ e) .0 in cleared-stays w g room l hl k (c .small) (eqb-false l k d))
+    (λ e d. record { same = refl })
+
+exit-stays : (w : World) (g : Sound (w .host)) (room : length (w .bytes) ≡ 40960) (l : ℕ) (hl : l < 16) → eqb (exited (w .host) (w .bytes) .answer .number) 0 ≡ false → Stays w l (exited (w .host) (w .bytes))
+unfolding exited unless
+exit-stays w g room l hl =
+    cond-cases (eqb (first (entryRows (w .host) (length (w .bytes)))) 0) _ _ (λ (o : Outcome). eqb (o .answer .number) 0 ≡ false → Stays w l o)
+    (λ e d. absurd (true≢false d)) (λ e d. record { same = refl })
+
+pub step-order : (w : World) (t : Step) → Sound (w .host) → length (w .bytes) ≡ 40960 → (l : ℕ) → l < 16 → restarts w t l ≡ false → holds w l ++ deliveredBy w t l ≡ readBy w t l ++ held (after w t .host .queues) (after w t .bytes) l
 unfolding after socketed bound connected disconnected localGiven peerGiven errorGiven optionGiven optionSet interrupted polledOf withSocket withThread
-call-reads w socket g room l hl d = either-stays w g room l hl _ [] _ (λ e. record { same = refl }) .same
-call-reads w (bind k a p) g room l hl d = either-stays w g room l hl _ [] _ (λ e. record { same = refl }) .same
-call-reads w (connect k a p) g room l hl d = either-stays w g room l hl _ [] _ (λ e. record { same = refl }) .same
-call-reads w (disconnect k) g room l hl d = either-stays w g room l hl _ [] _ (λ e. record { same = refl }) .same
-call-reads w (getsockname k) g room l hl d = either-stays w g room l hl _ [] _ (λ e. record { same = refl }) .same
-call-reads w (getpeername k) g room l hl d = either-stays w g room l hl _ [] _ (λ e. record { same = refl }) .same
-call-reads w (geterr k) g room l hl d = either-stays w g room l hl _ [] _ (λ e. record { same = refl }) .same
-call-reads w (getopt k o) g room l hl d = either-stays w g room l hl _ [] _ (λ e. record { same = refl }) .same
-call-reads w (setopt k o on) g room l hl d = either-stays w g room l hl _ [] _ (λ e. record { same = refl }) .same
-call-reads w (sendto k a p payload) g room l hl d = sent-stays w g room l hl k a p payload .same
-call-reads w (recvfrom k nonblocking b) g room l hl d =
-    picked (eqb l k) _ _ _ _ (λ e. let i : l ≡ k = eqb-true _ _ e in rw i (recvfrom-taken w g k nonblocking b)) (λ e. other-stays w g room l hl (recvfrom k nonblocking b) (eqb-false _ _ e) .same)
-call-reads w (resume b) g room l hl d =
-    picked (eqb l (awaitedBy (w .host .thread))) _ _ _ _ (λ e. let i : l ≡ awaitedBy (w .host .thread) = eqb-true _ _ e in rw i (resume-taken w g b))
+step-order w socket g room l hl d = append-nil (holds w l) ∙ either-stays w g room l hl _ [] _ (λ e. record { same = refl }) .same
+step-order w (bind k a p) g room l hl d = append-nil (holds w l) ∙ either-stays w g room l hl _ [] _ (λ e. record { same = refl }) .same
+step-order w (connect k a p) g room l hl d = append-nil (holds w l) ∙ either-stays w g room l hl _ [] _ (λ e. record { same = refl }) .same
+step-order w (disconnect k) g room l hl d = append-nil (holds w l) ∙ either-stays w g room l hl _ [] _ (λ e. record { same = refl }) .same
+step-order w (getsockname k) g room l hl d = append-nil (holds w l) ∙ either-stays w g room l hl _ [] _ (λ e. record { same = refl }) .same
+step-order w (getpeername k) g room l hl d = append-nil (holds w l) ∙ either-stays w g room l hl _ [] _ (λ e. record { same = refl }) .same
+step-order w (geterr k) g room l hl d = append-nil (holds w l) ∙ either-stays w g room l hl _ [] _ (λ e. record { same = refl }) .same
+step-order w (getopt k o) g room l hl d = append-nil (holds w l) ∙ either-stays w g room l hl _ [] _ (λ e. record { same = refl }) .same
+step-order w (setopt k o on) g room l hl d = append-nil (holds w l) ∙ either-stays w g room l hl _ [] _ (λ e. record { same = refl }) .same
+step-order w (sendto k a p payload) g room l hl d = append-nil (holds w l) ∙ sent-stays w g room l hl k a p payload .same
+step-order w (recvfrom k nonblocking b) g room l hl d =
+    append-nil (holds w l)
+    ∙ picked (eqb l k) _ _ _ _ (λ e. let i : l ≡ k = eqb-true _ _ e in rw i (recvfrom-taken w g k nonblocking b)) (λ e. other-stays w g room l hl (recvfrom k nonblocking b) (eqb-false _ _ e) .same)
+step-order w (resume b) g room l hl d =
+    append-nil (holds w l)
+    ∙ picked (eqb l (awaitedBy (w .host .thread))) _ _ _ _ (λ e. let i : l ≡ awaitedBy (w .host .thread) = eqb-true _ _ e in rw i (resume-taken w g b))
     (λ e. other-stays w g room l hl (resume b) (eqb-false _ _ e) .same)
-call-reads w interrupt g room l hl d = either-stays w g room l hl _ [] _ (λ e. record { same = refl }) .same
-call-reads w (poll r v) g room l hl d = either-stays w g room l hl _ [] _ (λ e. record { same = refl }) .same
-call-reads w (close k) g room l hl d = other-stays w g room l hl (close k) d .same
-call-reads w exit g room l hl d = absurd (d tt)
+step-order w interrupt g room l hl d = append-nil (holds w l) ∙ either-stays w g room l hl _ [] _ (λ e. record { same = refl }) .same
+step-order w (poll r v) g room l hl d = append-nil (holds w l) ∙ either-stays w g room l hl _ [] _ (λ e. record { same = refl }) .same
+step-order w (close k) g room l hl d = append-nil (holds w l) ∙ close-stays w g room l hl k d .same
+step-order w exit g room l hl d = append-nil (holds w l) ∙ exit-stays w g room l hl d .same
+step-order w (datagram f p) g room l hl d = sym (datagram-dealt w g f p .grown l hl)
+step-order w (notice src dst f) g room l hl d = append-nil (holds w l) ∙ let x = notice-quiet w g src dst f in rw (x .queues, x .bytes) refl
+step-order w (outstep b) g room l hl d = sym (outstep-dealt w g b .grown l hl)
 
 -- ---- a close and the exit leave nothing
 
@@ -251,6 +293,50 @@ close-empties w g l hl = close-emptied w g l hl .none
 pub exit-empties : (w : World) → Sound (w .host) → (l : ℕ) → l < 16 → after w exit .answer .number ≡ 0 → held (after w exit .host .queues) (after w exit .bytes) l ≡ []
 unfolding after
 exit-empties w g l hl = exit-emptied w g l hl .none
+
+-- ---- a step that opens or ends a socket leaves it holding nothing
+
+-- what holds no datagram
+none-held : (q : Queues) (t : List ℕ) (k : ℕ) → queue.countAt q k ≡ 0 → held q t k ≡ []
+unfolding held
+none-held q t k e = ap (entries (λ x. x .len) (headAt q k) t (2048 * k)) e ∙ entries-none (λ x. x .len) (headAt q k) t (2048 * k)
+
+socket-fresh : (w : World) (g : Sound (w .host)) (l : ℕ) → (eqb (socketed (w .host) (w .bytes) .answer .number) 0 && eqb l (socketed (w .host) (w .bytes) .answer .descriptor .0)) ≡ true
+    → held (socketed (w .host) (w .bytes) .host .queues) (socketed (w .host) (w .bytes) .bytes) l ≡ []
+unfolding socketed unless withSocket
+socket-fresh w g l =
+    cond-cases (eqb (socketRefusal (w .host) (length (w .bytes))) 0) _ _ (λ (o : Outcome). (eqb (o .answer .number) 0 && eqb l (o .answer .descriptor .0)) ≡ true → held (o .host .queues) (o .bytes) l ≡ [])
+    (λ e d. fresh (eqb-true _ _ e) (eqb-true _ _ d)) (λ e d. absurd (false≢true (sym (ap (λ (b : Bool). b && eqb l 0) e) ∙ d)))
+  where
+    fresh : socketRefusal (w .host) (length (w .bytes)) ≡ 0 → l ≡ lowestClosed (w .host .sockets) → held (w .host .queues) (w .bytes) l ≡ []
+    fresh e i =
+        let p = entered (w .host) (length (w .bytes)) _ refl e in
+        let c = lowest-closed (w .host .sockets) (eqb-false _ _ (rows-passed ((eqb (lowestClosed (w .host .sockets)) 16, 15) ∷ []) 0 refl (p .1) .0 .0)) in
+        none-held (w .host .queues) (w .bytes) l (rw i (g .formed .drained (lowestClosed (w .host .sockets)) (c .0) (c .1)))
+
+pub step-restart : (w : World) (t : Step) → Sound (w .host) → (l : ℕ) → l < 16 → restarts w t l ≡ true → held (after w t .host .queues) (after w t .bytes) l ≡ []
+unfolding after
+step-restart w socket g l hl e = socket-fresh w g l e
+step-restart w (bind k a p) g l hl e = absurd (false≢true e)
+step-restart w (connect k a p) g l hl e = absurd (false≢true e)
+step-restart w (disconnect k) g l hl e = absurd (false≢true e)
+step-restart w (getsockname k) g l hl e = absurd (false≢true e)
+step-restart w (getpeername k) g l hl e = absurd (false≢true e)
+step-restart w (geterr k) g l hl e = absurd (false≢true e)
+step-restart w (getopt k o) g l hl e = absurd (false≢true e)
+step-restart w (setopt k o on) g l hl e = absurd (false≢true e)
+step-restart w (sendto k a p payload) g l hl e = absurd (false≢true e)
+step-restart w (recvfrom k nonblocking b) g l hl e = absurd (false≢true e)
+step-restart w (resume b) g l hl e = absurd (false≢true e)
+step-restart w interrupt g l hl e = absurd (false≢true e)
+step-restart w (poll r v) g l hl e = absurd (false≢true e)
+step-restart w (close k) g l hl e =
+    let z : l ≡ k = eqb-true _ _ (and-right (eqb (closed (w .host) (w .bytes) k .answer .number) 0) _ e) in
+    rw (← z) (close-emptied w g l hl .none (eqb-true _ _ (and-left _ (eqb l l) (rw (← z) at e))))
+step-restart w exit g l hl e = exit-emptied w g l hl .none (eqb-true _ _ e)
+step-restart w (datagram f p) g l hl e = absurd (false≢true e)
+step-restart w (notice src dst f) g l hl e = absurd (false≢true e)
+step-restart w (outstep b) g l hl e = absurd (false≢true e)
 
 -- ---- a read hands over the oldest
 

@@ -5,7 +5,7 @@ use mathlib.Core.Logic.{_≢_}
 use Prim.Native.Nat.{ℕ, _≤_}
 use Rattle.host.specs.declared.Host.{Host}
 use Rattle.host.specs.Answers.{Outcome}
-use Rattle.history.specs.Steps.{World, Step, socket, bind, connect, disconnect, getsockname, getpeername, geterr, getopt, setopt, sendto, recvfrom, resume, interrupt, poll, close, exit}
+use Rattle.history.specs.Steps.{World, Step, socket, bind, connect, disconnect, getsockname, getpeername, geterr, getopt, setopt, sendto, recvfrom, resume, interrupt, poll, close, exit, datagram, notice, outstep}
 
 -- the buffer that the step is lent; [] where none is
 abbrev pub lentBy : Step → List ℕ
@@ -25,6 +25,9 @@ lentBy interrupt = []
 lentBy (poll r v) = []
 lentBy (close k) = []
 lentBy exit = []
+lentBy (datagram f p) = []
+lentBy (notice src dst f) = []
+lentBy (outstep b) = b
 
 -- record, store and buffer as they were
 pub record Unchanged (w : World) (b : List ℕ) (o : Outcome) : Type 0 where

@@ -3,3 +3,4 @@ pub mod Sound
 pub mod Frame
 pub mod Effects
 pub mod Order
+pub mod Outgoing

@@ -2,6 +2,7 @@
 use Prim.Native.Nat.{ℕ}
 use mathlib.Core.List.{List}
 use mathlib.Core.Bool.{Bool}
+use Rattle.net.specs.declared.Flow.{Flow}
 use Rattle.net.specs.declared.Port.{Port}
 use Rattle.host.specs.declared.Host.{Host}
 use Rattle.host.specs.Answers.{Outcome}
@@ -11,6 +12,8 @@ use Rattle.host.specs.Sending.{sent}
 use Rattle.host.specs.Reading.{received, resumed, interrupted}
 use Rattle.host.specs.Polling.{polledOf}
 use Rattle.host.specs.Closing.{closed, exited}
+use Rattle.host.specs.Arrivals.{arrived, noticed}
+use Rattle.host.specs.Emitting.{stepped}
 
 -- a host and the lent store
 pub record World : Type 0 where
@@ -35,6 +38,12 @@ pub data Step : Type 0 where
   poll : ℕ → ℕ → Step
   close : ℕ → Step
   exit : Step
+  -- a datagram from outside, of the flow, with its payload
+  datagram : Flow → List ℕ → Step
+  -- a notice from outside: its source, its destination, the flow that it embeds
+  notice : ℕ → ℕ → Flow → Step
+  -- the out step, with the lent buffer
+  outstep : List ℕ → Step
 
 unfoldable pub after : World → Step → Outcome
 after w socket = socketed (w .host) (w .bytes)
@@ -53,3 +62,6 @@ after w interrupt = interrupted (w .host) (w .bytes)
 after w (poll r v) = polledOf (w .host) (w .bytes) r v
 after w (close k) = closed (w .host) (w .bytes) k
 after w exit = exited (w .host) (w .bytes)
+after w (datagram f p) = arrived (w .host) (w .bytes) f p
+after w (notice src dst f) = noticed (w .host) (w .bytes) src dst f
+after w (outstep b) = stepped (w .host) (w .bytes) b
