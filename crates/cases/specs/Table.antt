@@ -1,4 +1,4 @@
--- Every case marked P in document 01 that speaks of addresses, scores and binding: what is computed beside what it has to be
+-- Every case marked P in document 01: what is computed beside what it has to be
 use Prim.Native.Nat.{ℕ}
 use mathlib.Core.List.{List, [], _∷_}
 use mathlib.Core.Bool.{Bool, true, _&&_, cond}
@@ -9,6 +9,9 @@ use Rattle.state.specs.declared.Socket.{Socket}
 use Rattle.state.specs.Places.{socketIn}
 use Rattle.matching.specs.Scores.{scoreOf, bestOf}
 use Rattle.matching.specs.Ports.{autoPort}
+use Rattle.queues.specs.Moves.{headOf, noQueues}
+use Rattle.outqueue.specs.Moves.{noItems}
+use Rattle.delivery.specs.Landing.{Landed, landing}
 use Rattle.host.specs.Tables.{first}
 use Rattle.host.specs.Naming.{bindRows}
 use Rattle.cases.specs.Example.{ip, flow, four, hosting, bound}
@@ -24,6 +27,10 @@ score k f = scoreOf (socketIn four k) f
 abbrev winner : Flow → ℕ
 winner f = bestOf four f .at
 
+-- what becomes of an empty datagram: the number, and the descriptor with 20
+abbrev lands : Flow → Landed
+lands f = landing four noQueues noItems [] (headOf f (record { 0 = 1 }) 0) [] true
+
 -- what bind's own rows say of socket 1
 abbrev bindGives : List Socket → ℕ → ℕ → ℕ
 bindGives ks a p = first (bindRows (hosting ks) 1 a p)
@@ -36,20 +43,27 @@ table =
     (score 2 (flow (ip 10 2 0 9) 6000 (ip 10 2 0 5) 7000), 3) ∷
     (score 3 (flow (ip 10 2 0 9) 6000 (ip 10 2 0 5) 7000), 4) ∷
     (winner (flow (ip 10 2 0 9) 6000 (ip 10 2 0 5) 7000), 3) ∷
+    (lands (flow (ip 10 2 0 9) 6000 (ip 10 2 0 5) 7000) .number, 20) ∷
+    (lands (flow (ip 10 2 0 9) 6000 (ip 10 2 0 5) 7000) .at, 3) ∷
     -- from 10.2.0.9:6001, 1, 2, 3, 0: socket 2
     (score 0 (flow (ip 10 2 0 9) 6001 (ip 10 2 0 5) 7000), 1) ∷
     (score 1 (flow (ip 10 2 0 9) 6001 (ip 10 2 0 5) 7000), 2) ∷
     (score 2 (flow (ip 10 2 0 9) 6001 (ip 10 2 0 5) 7000), 3) ∷
     (score 3 (flow (ip 10 2 0 9) 6001 (ip 10 2 0 5) 7000), 0) ∷
     (winner (flow (ip 10 2 0 9) 6001 (ip 10 2 0 5) 7000), 2) ∷
+    (lands (flow (ip 10 2 0 9) 6001 (ip 10 2 0 5) 7000) .number, 20) ∷
+    (lands (flow (ip 10 2 0 9) 6001 (ip 10 2 0 5) 7000) .at, 2) ∷
     -- from 10.2.0.8:6000, 1, 2, 0, 0: socket 1
     (score 0 (flow (ip 10 2 0 8) 6000 (ip 10 2 0 5) 7000), 1) ∷
     (score 1 (flow (ip 10 2 0 8) 6000 (ip 10 2 0 5) 7000), 2) ∷
     (score 2 (flow (ip 10 2 0 8) 6000 (ip 10 2 0 5) 7000), 0) ∷
     (score 3 (flow (ip 10 2 0 8) 6000 (ip 10 2 0 5) 7000), 0) ∷
     (winner (flow (ip 10 2 0 8) 6000 (ip 10 2 0 5) 7000), 1) ∷
-    -- to port 7001: nobody
+    (lands (flow (ip 10 2 0 8) 6000 (ip 10 2 0 5) 7000) .number, 20) ∷
+    (lands (flow (ip 10 2 0 8) 6000 (ip 10 2 0 5) 7000) .at, 1) ∷
+    -- to port 7001: 22
     (bestOf four (flow (ip 10 2 0 9) 6000 (ip 10 2 0 5) 7001) .score, 0) ∷
+    (lands (flow (ip 10 2 0 9) 6000 (ip 10 2 0 5) 7001) .number, 22) ∷
     -- 223.255.255.255 not martian, 224.0.0.0 is; 0.255.255.255 is, 1.0.0.0 not
     (yes (martian (ip 223 255 255 255)), 0) ∷
     (yes (martian (ip 224 0 0 0)), 1) ∷
