@@ -114,6 +114,9 @@ pub record Dealt (w : World) (picked : ℕ → Type 0) (d : Datagram) (f : Flow)
   pub frame : (l : ℕ) → l < 16 → (picked l → ⊥) → Untouched w o l
   pub grown : (l : ℕ) → l < 16 → held (o .host .queues) (o .bytes) l ≡ holds w l ++ comes (o .answer) l d
   pub waiting : queuedIn w ++ leavesNotice (o .answer .number) f ≡ gone (o .answer .number) ++ waitingOut (o .host .out) (o .bytes)
+  -- 20 is for the winner, 22 for nobody
+  pub best : o .answer .number ≡ 20 → Picks (w .host .sockets) (d .head .flow) (o .answer .descriptor .0)
+  pub lone : o .answer .number ≡ 22 → bestOf (w .host .sockets) f .score ≡ 0
 
 pub same-queue : (q : Queues) (s : List ℕ) (l : ℕ) → SameQueue q s q s l
 same-queue q s l = record { count = refl; heads = λ i m. refl; bytes = refl }
@@ -128,6 +131,8 @@ module _ (w : World) (g : Sound (w .host)) (picked : ℕ → Type 0) (d : Datagr
         frame = λ l hl x. record { record-same = refl; queue-same = same-queue (w .host .queues) (w .bytes) l };
         grown = λ l hl. simp e (sym (append-nil (holds w l)));
         waiting = simp (u, z) (append-nil (queuedIn w));
+        best = λ x. absurd (eqb-false _ _ e x);
+        lone = λ x. absurd (eqb-false _ _ u x);
       }
 
   pub either-dealt : (n : ℕ) (b : List ℕ) (o : Outcome) → (not (eqb n 20) && not (eqb n 22)) ≡ true → gone n ≡ [] → (n ≡ 0 → Dealt w picked d f gone o) → Dealt w picked d f gone (unless n (w .host) (w .bytes) b o)
@@ -167,6 +172,8 @@ module _ (w : World) (g : Sound (w .host)) where
         frame = λ j hj p. record { record-same = refl; queue-same = x .others j hj (λ e z. p (x .best e .0, z ∙ x .best e .1)) };
         grown = x .grown;
         waiting = sym (x .waiting);
+        best = x .best;
+        lone = x .none;
       }
 
   pub datagram-dealt : (f : Flow) (p : List ℕ) → Dealt w (Picks (h .sockets) f) (arrivingAs w f p) f (λ n. []) (arrived h s f p)

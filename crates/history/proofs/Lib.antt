@@ -7,3 +7,13 @@ pub mod Frame
 pub mod Effects
 pub mod Order
 pub mod Outgoing
+pub mod Facts
+pub mod Numbers
+pub mod Preservation
+pub mod Reuse
+pub mod InOrder
+pub mod BestMatch
+pub mod LeftAlone
+pub mod OutInOrder
+pub mod OneResult
+pub mod Receptive

@@ -119,6 +119,8 @@ module _ (w : World) (g : Sound (w .host)) (b : List ℕ) (v : Leaving (w .host)
         frame = λ l hl x. record { record-same = refl; queue-same = rest-same l hl };
         grown = λ l hl. simp e (rest-held l hl ∙ sym (append-nil (holds w l)));
         waiting = simp (u, t) (append-nil (queuedIn w) ∙ rest-waiting);
+        best = λ x. absurd (eqb-false _ _ e x);
+        lone = λ x. absurd (eqb-false _ _ u x);
       }
 
   -- a notice inside
@@ -137,6 +139,8 @@ module _ (w : World) (g : Sound (w .host)) (b : List ℕ) (v : Leaving (w .host)
         frame = λ l hl p. record { record-same = x .others l (λ y. p (lb, rw q y)); queue-same = rw (x .queues) (rest-same l hl) };
         grown = λ l hl. simp n20 (rw (x .queues) (rest-held l hl ∙ sym (append-nil (holds w l))));
         waiting = simp (n22, t) (rw (x .out) (append-nil (queuedIn w) ∙ rest-waiting));
+        best = λ y. absurd (eqb-false _ _ n20 y);
+        lone = λ y. absurd (eqb-false _ _ n22 y);
       }
 
   -- a datagram inside
@@ -160,6 +164,8 @@ module _ (w : World) (g : Sound (w .host)) (b : List ℕ) (v : Leaving (w .host)
             ∙ ap (λ (z : List Datagram). z ++ brings l j (loopHead x) (part s 32768 (x .len))) (rest-held j hj)
             ∙ ap (λ (z : List ℕ). holds w j ++ brings l j (loopHead x) z) (sym (oldest-out-bytes o s (v .ready .room) small));
         waiting = simp t (ap (λ (z : List Parcel). z ++ leavesNotice (l .number) (x .flow)) rest-waiting ∙ ap (λ (z : List Parcel). firstOut w ∷ z) (sym (y .waiting)));
+        best = y .best;
+        lone = y .none;
       }
     where
       to-dst : eqb (oldestItem h .kind) 0 ≡ true → destinationOf (oldestItem h) ≡ oldestItem h .flow .dst

@@ -4,3 +4,5 @@ pub mod Frame
 pub mod Effects
 pub mod Order
 pub mod Outgoing
+pub mod Runs
+pub mod Receptive
