@@ -1,15 +1,14 @@
 -- What a landing does to what each socket holds and to what the out-queue holds: the laws of every delivery, from outside and from inside.
 -- Assumes nothing.
-use mathlib.Core.Path.{_≡_, refl, sym, ap, _∙_}
+use mathlib.Core.Path.{_≡_, refl, sym, _∙_}
 use mathlib.Core.List.{List, [], _∷_, _++_, append-nil}
 use mathlib.Core.Logic.{_≢_, _⊎_, ⊎-elim}
-use mathlib.Core.Bool.{Bool, true, false, cond, _&&_}
+use mathlib.Core.Bool.{Bool, true, false, cond}
 use Prim.Native.Nat.{ℕ, _+_, _*_, _<_, _≤_}
 use native.Mathlib.Omega.{arith}
 use lib.Dec.{eqb}
 use lib.ListN.{length}
 use borrow.Author.Tests.{eqb-false, eq-eqb, ne-eqb}
-use Rattle.laws.specs.Places.{part}
 use Rattle.laws.proofs.Numbers.{same-or-not}
 use Rattle.state.specs.declared.Interface.{Interface}
 use Rattle.state.specs.declared.Queued.{Queued}

@@ -1,5 +1,4 @@
 -- Who hears of a notice: document 01, "Arriving notice" (000, delivery.in.icmp.1 and .2, delivery.loopback.icmp.1 and .2)
-use Prim.Native.Nat.{ℕ}
 use mathlib.Core.List.{List}
 use mathlib.Core.Bool.{Bool, _||_, not, cond}
 use lib.Dec.{eqb}

@@ -1,57 +1,46 @@
 -- What arrivals leave: a datagram at the end of its winner's queue or a notice for its sender; a notice heard by the sender of what it embeds.
 -- Assumes nothing.
 use mathlib.Core.Path.{_≡_, refl, sym, ap, _∙_}
-use mathlib.Core.List.{List, [], _∷_, _++_, append-nil}
-use mathlib.Core.Logic.{_≢_, _⊎_, inr}
-use mathlib.Core.Bool.{Bool, true, false, _&&_, not, cond, false≢true}
-use Prim.Native.Nat.{ℕ, _+_, _*_, _<_, _≤_}
+use mathlib.Core.List.{List, [], _++_, append-nil}
+use mathlib.Core.Logic.{inr}
+use mathlib.Core.Bool.{true, false, _&&_, not}
+use Prim.Native.Nat.{ℕ, _+_, _<_, _≤_}
 use native.Mathlib.Omega.{arith}
-use lib.Dec.{eqb, leb}
+use lib.Dec.{eqb}
 use lib.ListN.{length}
-use borrow.Author.Tests.{eqb-true, eqb-false, not-true, ne-eqb, le-leb}
-use Rattle.laws.specs.Places.{part}
-use Rattle.laws.proofs.Splice.{length-part, part-part}
-use Rattle.laws.proofs.Tests.{cond-cases, and-left, and-right, and-both, or-one, or-two}
-use Rattle.net.specs.Address.{loopback, martian}
-use Rattle.net.specs.declared.Descriptor.{Descriptor}
+use borrow.Author.Tests.{eqb-true, eqb-false, not-true}
+use Rattle.laws.proofs.Tests.{cond-cases, and-left, and-right, or-two}
+use Rattle.net.specs.Address.{loopback}
 use Rattle.net.specs.declared.Flow.{Flow}
 use Rattle.state.specs.declared.Socket.{Socket}
-use Rattle.state.specs.declared.Thread.the-variants.{Waiting}
-use Rattle.state.specs.Interfaces.{own, ours, holderId}
+use Rattle.state.specs.Interfaces.{ours}
 use Rattle.state.specs.Places.{socketIn}
 use Rattle.state.proofs.Places.{socket-else}
-use Rattle.store.specs.Store.{slotsPopped}
 use Rattle.matching.specs.Scores.{bestOf}
 use Rattle.matching.proofs.Winner.{winner-is, winner-small}
 use Rattle.matching.proofs.Scores.{score-matches}
 use Rattle.binding.specs.Sockets.{withError}
 use Rattle.binding.proofs.Stands.{error-stands}
 use Rattle.queues.specs.declared.Queues.{Queues}
-use Rattle.queues.specs.Moves.{headOf}
 use Rattle.queues.specs.Held.{Datagram, SameQueue, held}
-use Rattle.queues.proofs.Held.{held-same, elsewhere}
 use Rattle.outqueue.specs.declared.OutQueue.{OutQueue}
-use Rattle.outqueue.specs.Moves.{itemAt, destinationOf, withoutFirst}
 use Rattle.outqueue.specs.Fits.{OutFit}
-use Rattle.outqueue.specs.Held.{Parcel, waitingOut, oldestOut}
-use Rattle.outqueue.proofs.Held.{remove-sized, remove-fit, remove-held, remove-length, remove-before}
-use Rattle.delivery.specs.Landing.{Landed, landing, arriving, loopHead, looping, leavesNotice}
+use Rattle.outqueue.specs.Held.{Parcel, waitingOut}
+use Rattle.delivery.specs.Landing.{Landed, landing, arriving, leavesNotice}
 use Rattle.delivery.specs.declared.Hearing.{Hearing}
 use Rattle.delivery.specs.Hearing.{turned, senderOf, listens, hearing}
 use Rattle.delivery.proofs.Facts.{Facts, landing-facts}
 use Rattle.host.specs.declared.Host.{Host}
-use Rattle.host.specs.declared.Answer.{Answer}
 use Rattle.host.specs.declared.Stepped.{Stepped}
 use Rattle.host.specs.Form.{socketAt}
-use Rattle.host.specs.Answers.{Outcome, outcome, gives, unless, plain, unchanged}
+use Rattle.host.specs.Answers.{Outcome, gives, unless, plain}
 use Rattle.host.specs.Moves.{withSocket, withQueues, withOut}
 use Rattle.host.specs.Tables.{first}
-use Rattle.host.specs.Arrivals.{datagramRows, noticeRows, landedIn, landedStep, arrived, heardStep, noticed}
-use Rattle.host.specs.Emitting.{outRows, oldestItem, withoutOldest, bytesWithout, handledInside, leaving, stepped, Leaving}
-use Rattle.host.proofs.Passed.{arrivable, noticeable, leavable, oldest-small}
+use Rattle.host.specs.Arrivals.{datagramRows, noticeRows, landedIn, arrived, heardStep, noticed}
+use Rattle.host.proofs.Passed.{arrivable}
 use Rattle.history.specs.Sound.{Sound}
-use Rattle.history.specs.Frame.{Picks, soughtBy, Untouched}
-use Rattle.history.specs.Order.{holds, comes, arrivingAs, firstOut, comingBack}
+use Rattle.history.specs.Frame.{Picks, Untouched}
+use Rattle.history.specs.Order.{holds, comes, arrivingAs}
 use Rattle.history.specs.Outgoing.{queuedIn, takes}
 use Rattle.history.specs.Steps.{World}
 use Rattle.history.proofs.Moves.{parts, fitting, socket-kept, queues-kept, out-kept}

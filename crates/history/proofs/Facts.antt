@@ -6,7 +6,6 @@ use mathlib.Core.Bool.{true, false}
 use Prim.Native.Nat.{ℕ, _<_}
 use lib.ListN.{length}
 use Rattle.queues.specs.Held.{held}
-use Rattle.outqueue.specs.Held.{waitingOut}
 use Rattle.history.specs.Sound.{Sound}
 use Rattle.history.specs.Frame.{Named, Untouched}
 use Rattle.history.specs.Order.{holds, readBy, deliveredBy, restarts}

@@ -1,23 +1,21 @@
 -- What was queued to go out, followed by what a step queues, is what the step takes from the out-queue followed by what is queued.
 -- Assumes nothing.
-use mathlib.Core.Path.{_≡_, refl, sym, ap, _∙_}
+use mathlib.Core.Path.{_≡_, refl, sym, _∙_}
 use mathlib.Core.List.{List, [], _∷_, _++_, append-nil}
 use mathlib.Core.Bool.{Bool, false, not, cond}
-use Prim.Native.Nat.{ℕ, _≤_}
+use Prim.Native.Nat.{ℕ}
 use lib.Dec.{eqb, ltb}
 use lib.ListN.{length}
 use borrow.Author.Tests.{eqb-true, eqb-false, not-true}
 use Rattle.laws.specs.Places.{part}
 use Rattle.laws.proofs.Tests.{cond-cases}
 use Rattle.net.specs.declared.Port.{Port}
-use Rattle.state.specs.declared.Socket.{Socket}
 use Rattle.state.specs.declared.Thread.{Thread}
 use Rattle.state.specs.declared.Thread.the-variants.{Running}
-use Rattle.queues.specs.declared.Queues.{Queues}
 use Rattle.queues.specs.Moves.{firstHead}
 use Rattle.queues.proofs.Held.{take-length, take-behind, clear-length, clear-behind, emptied-length, emptied-behind}
 use Rattle.outqueue.specs.Moves.{Room}
-use Rattle.outqueue.specs.Held.{Parcel, waitingOut}
+use Rattle.outqueue.specs.Held.{waitingOut}
 use Rattle.outqueue.proofs.Held.{out-same, add-held}
 use Rattle.host.specs.declared.Host.{Host}
 use Rattle.host.specs.declared.Answer.{Answer}
@@ -27,11 +25,11 @@ use Rattle.host.specs.Moves.{withSocket, withQueues, withOut, withThread}
 use Rattle.host.specs.Entered.{Ready, Holding}
 use Rattle.host.specs.Naming.{socketed, bound, connected, disconnected, localGiven, peerGiven}
 use Rattle.host.specs.Options.{withoutError, errorGiven, optionGiven, optionSet}
-use Rattle.host.specs.Sending.{autobound, queuedOut, sent}
+use Rattle.host.specs.Sending.{queuedOut, sent}
 use Rattle.host.specs.Reading.{oldestTaken, received, awaitedBy, resumedOn, resumed, interrupted}
 use Rattle.host.specs.Polling.{polledOf}
 use Rattle.host.specs.Closing.{closed, exited, exitHost}
-use Rattle.host.proofs.Passed.{entered, called, resuming, sendable}
+use Rattle.host.proofs.Passed.{called, resuming, sendable}
 use Rattle.history.specs.Sound.{Sound}
 use Rattle.history.specs.Outgoing.{queuedIn, sending, queuedBy, leftBy}
 use Rattle.history.specs.Steps.{World, Step, after, socket, bind, connect, disconnect, getsockname, getpeername, geterr, getopt, setopt, sendto, recvfrom, resume, interrupt, poll, close, exit, datagram, notice, outstep}

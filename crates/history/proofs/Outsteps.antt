@@ -2,61 +2,48 @@
 -- Assumes nothing.
 use mathlib.Core.Path.{_≡_, refl, sym, ap, _∙_}
 use mathlib.Core.List.{List, [], _∷_, _++_, append-nil}
-use mathlib.Core.Logic.{_≢_, _⊎_, inr}
-use mathlib.Core.Bool.{Bool, true, false, _&&_, not, cond, false≢true}
+use mathlib.Core.Logic.{_≢_}
+use mathlib.Core.Bool.{true, false, _&&_, not, cond}
 use Prim.Native.Nat.{ℕ, _+_, _*_, _<_, _≤_}
 use native.Mathlib.Omega.{arith}
 use lib.Dec.{eqb, leb}
 use lib.ListN.{length}
 use borrow.Author.Tests.{eqb-true, eqb-false, not-true, ne-eqb, le-leb}
-use Rattle.laws.specs.Places.{part}
+use Rattle.laws.specs.Places.{part, splice}
 use Rattle.laws.proofs.Splice.{length-part, part-part}
-use Rattle.laws.proofs.Tests.{cond-cases, and-left, and-right, and-both, or-one, or-two}
+use Rattle.laws.proofs.Tests.{cond-cases, and-left, and-right, and-both, or-one}
 use Rattle.net.specs.Address.{loopback, martian}
-use Rattle.net.specs.declared.Descriptor.{Descriptor}
 use Rattle.net.specs.declared.Flow.{Flow}
-use Rattle.state.specs.declared.Socket.{Socket}
-use Rattle.state.specs.declared.Thread.the-variants.{Waiting}
-use Rattle.state.specs.Interfaces.{own, ours, holderId}
-use Rattle.state.specs.Places.{socketIn}
-use Rattle.state.proofs.Places.{socket-else}
-use Rattle.store.specs.Store.{slotsPopped}
-use Rattle.matching.specs.Scores.{bestOf}
-use Rattle.matching.proofs.Winner.{winner-is, winner-small}
-use Rattle.matching.proofs.Scores.{score-matches}
-use Rattle.binding.specs.Sockets.{withError}
-use Rattle.binding.proofs.Stands.{error-stands}
+use Rattle.state.specs.Interfaces.{ours}
+use Rattle.store.proofs.Slots.{popped-length}
 use Rattle.queues.specs.declared.Queues.{Queues}
-use Rattle.queues.specs.Moves.{headOf}
 use Rattle.queues.specs.Held.{Datagram, SameQueue, held}
 use Rattle.queues.proofs.Held.{held-same, elsewhere}
 use Rattle.outqueue.specs.declared.OutQueue.{OutQueue}
 use Rattle.outqueue.specs.Moves.{itemAt, destinationOf, withoutFirst}
-use Rattle.outqueue.specs.Fits.{OutFit}
 use Rattle.outqueue.specs.Held.{Parcel, waitingOut, oldestOut}
 use Rattle.outqueue.proofs.Held.{remove-sized, remove-fit, remove-held, remove-length, remove-before}
-use Rattle.delivery.specs.Landing.{Landed, landing, arriving, loopHead, looping, brings, leavesNotice}
-use Rattle.delivery.specs.declared.Hearing.{Hearing}
-use Rattle.delivery.specs.Hearing.{turned, senderOf, listens, hearing}
-use Rattle.delivery.proofs.Facts.{Facts, landing-facts}
+use Rattle.delivery.specs.Landing.{Landed, landing, loopHead, looping, brings, leavesNotice}
+use Rattle.delivery.specs.Hearing.{turned, hearing}
+use Rattle.delivery.proofs.Cases.{landing-cases}
+use Rattle.delivery.proofs.Facts.{landing-facts}
 use Rattle.host.specs.declared.Host.{Host}
 use Rattle.host.specs.declared.Answer.{Answer}
 use Rattle.host.specs.declared.Stepped.{Stepped}
-use Rattle.host.specs.Form.{socketAt}
-use Rattle.host.specs.Answers.{Outcome, outcome, gives, unless, plain, unchanged}
-use Rattle.host.specs.Moves.{withSocket, withQueues, withOut}
+use Rattle.host.specs.Answers.{Outcome, outcome, gives, unless, plain}
+use Rattle.host.specs.Moves.{withQueues, withOut}
 use Rattle.host.specs.Tables.{first}
-use Rattle.host.specs.Arrivals.{datagramRows, noticeRows, landedIn, landedStep, arrived, heardStep, noticed}
+use Rattle.host.specs.Arrivals.{landedIn, heardStep}
 use Rattle.host.specs.Emitting.{outRows, oldestItem, withoutOldest, bytesWithout, handledInside, leaving, stepped, Leaving}
-use Rattle.host.proofs.Passed.{arrivable, noticeable, leavable, oldest-small}
+use Rattle.host.proofs.Passed.{leavable, oldest-small}
 use Rattle.history.specs.Sound.{Sound}
-use Rattle.history.specs.Frame.{Picks, soughtBy, Untouched}
-use Rattle.history.specs.Order.{holds, comes, arrivingAs, firstOut, comingBack}
+use Rattle.history.specs.Frame.{Picks, soughtBy}
+use Rattle.history.specs.Order.{holds, comes, firstOut, comingBack}
 use Rattle.history.specs.Outgoing.{queuedIn, takes}
 use Rattle.history.specs.Steps.{World}
-use Rattle.history.proofs.Moves.{parts, fitting, socket-kept, queues-kept, out-kept}
+use Rattle.history.proofs.Moves.{parts, out-kept}
 use Rattle.history.proofs.Rows.{rows-all}
-use Rattle.history.proofs.Arrivals.{Heard, heard-facts, Dealt, either-dealt, landed-sound}
+use Rattle.history.proofs.Arrivals.{hearing-facts, heard-facts, Dealt, either-dealt, landed-sound}
 
 -- ---- the out step
 
@@ -189,3 +176,61 @@ outstep-dealt w g b =
   where
     stays : (n : ℕ) → not (takes n) ≡ true → cond (takes n) (firstOut w ∷ []) [] ≡ []
     stays n e = let f : takes n ≡ false = not-true _ e in simp f
+
+-- ---- what the caller gets: only 30 writes the buffer, and only the payload's bytes
+
+pub record Emits (w : World) (b : List ℕ) (o : Outcome) : Type 0 where
+  -- 30: the oldest item, said whole, and its bytes at the start of the buffer
+  pub emitted : o .answer .number ≡ 30 → (o .answer .item ≡ firstOut w .head) × (o .lent ≡ splice b 0 (firstOut w .bytes))
+  -- any other number leaves the buffer as it was
+  pub kept : o .answer .number ≢ 30 → o .lent ≡ b
+  -- a notice is queued only if the sender's address is loopback
+  pub answers : o .answer .number ≡ 22 → loopback (firstOut w .head .flow .src) ≡ true
+
+module _ (w : World) (b : List ℕ) where
+  -- neither 30 nor 22, and the buffer as it was
+  silent : (o : Outcome) → o .answer .number ≢ 30 → o .answer .number ≢ 22 → o .lent ≡ b → Emits w b o
+  silent o d n e = record { emitted = λ x. absurd (d x); kept = λ x. e; answers = λ x. absurd (n x) }
+
+  landed-emits : (t : List ℕ) (x : Datagram) → length t ≡ 40960
+      → Emits w b (landedIn (w .host) (landing (w .host .sockets) (w .host .queues) (withoutFirst (w .host .out)) t (x .head) (x .bytes) (loopback (firstOut w .head .flow .src))) b)
+  landed-emits t x room =
+      landing-cases (w .host .sockets) (w .host .queues) (withoutFirst (w .host .out)) t room (x .head) (x .bytes) (loopback (firstOut w .head .flow .src)) (λ (l : Landed). Emits w b (landedIn (w .host) l b))
+      (λ e. silent _ (λ z. absurd (omega (arith, z))) (λ z. absurd (omega (arith, z))) refl)
+      (λ e r. silent _ (λ z. absurd (omega (arith, z))) (λ z. absurd (omega (arith, z))) refl)
+      (λ e. silent _ (λ z. absurd (omega (arith, z))) (λ z. absurd (omega (arith, z))) refl)
+      (λ e m r. record { emitted = λ z. absurd (omega (arith, z)); kept = λ z. refl; answers = λ z. m })
+
+  heard-emits : (h : Host) (f : Flow) (t : List ℕ) → Emits w b (outcome (heardStep h f) t b)
+  unfolding heardStep
+  heard-emits h f t =
+      cond-cases (eqb (hearing (h .sockets) f .number) 27) _ _ (λ (r : Stepped). Emits w b (outcome r t b))
+      (λ e. silent _ (λ z. absurd (omega (arith, z))) (λ z. absurd (omega (arith, z))) refl)
+      (λ e. let n = hearing-facts (h .sockets) f in silent _ (λ z. absurd (omega (arith, z, n .1))) (λ z. absurd (omega (arith, z, n .0))) refl)
+
+  leaving-emits : Leaving (w .host) (w .bytes) (length b) → Emits w b (leaving (w .host) (w .bytes) b)
+  unfolding leaving handledInside
+  leaving-emits v =
+      cond-cases (loopback (destinationOf (oldestItem (w .host)))) _ _ (Emits w b)
+      (λ e. cond-cases (eqb (oldestItem (w .host) .kind) 0) _ _ (Emits w b)
+      (λ k. landed-emits (bytesWithout (w .host) (w .bytes)) (record { head = loopHead (oldestItem (w .host)); bytes = part (w .bytes) 32768 (oldestItem (w .host) .len) })
+      (popped-length (w .bytes) 32768 (w .host .out .count) (v .some .some) (omega (arith, v .some .few, v .some .store)) ∙ v .some .store))
+      (λ k. heard-emits _ _ _))
+      (λ e. cond-cases (martian (destinationOf (oldestItem (w .host)))) _ _ (Emits w b)
+      (λ m. silent _ (λ z. absurd (omega (arith, z))) (λ z. absurd (omega (arith, z))) refl)
+      (λ m. record {
+        emitted = λ z. (refl, ap (splice b 0) (sym (oldest-out-bytes (w .host .out) (w .bytes) (v .ready .room) (oldest-small v))));
+        kept = λ z. absurd (z refl);
+        answers = λ z. absurd (omega (arith, z));
+      }))
+
+  either-emits : (n : ℕ) (o : Outcome) → (not (eqb n 30) && not (eqb n 22)) ≡ true → (n ≡ 0 → Emits w b o) → Emits w b (unless n (w .host) (w .bytes) b o)
+  unfolding unless
+  either-emits n o q f =
+      cond-cases (eqb n 0) o (gives (w .host) (plain n) (w .bytes) b) (Emits w b) (λ e. f (eqb-true _ _ e))
+      (λ e. silent _ (eqb-false _ _ (not-true _ (and-left (not (eqb n 30)) _ q))) (eqb-false _ _ (not-true _ (and-right (not (eqb n 30)) _ q))) refl)
+
+  pub outstep-emits : Emits w b (stepped (w .host) (w .bytes) b)
+  unfolding stepped
+  outstep-emits =
+      either-emits _ _ (rows-all (λ n. not (eqb n 30) && not (eqb n 22)) (outRows (w .host) (length (w .bytes)) (length b)) 0 refl refl) (λ e. leaving-emits (leavable (w .host) (w .bytes) (length b) refl e))

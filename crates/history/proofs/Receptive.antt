@@ -2,16 +2,15 @@
 -- resume with a datagram or an error, or by interrupt.
 -- Assumes nothing.
 use mathlib.Core.Path.{_≡_, refl, sym, ap, _∙_}
-use mathlib.Core.List.{List, [], _∷_, _++_}
+use mathlib.Core.List.{List, []}
 use mathlib.Core.Logic.{_≢_}
-use mathlib.Core.Bool.{Bool, true, false, not, false≢true}
+use mathlib.Core.Bool.{true, false, false≢true}
 use Prim.Native.Nat.{ℕ, _≤_}
 use lib.Dec.{eqb}
 use lib.ListN.{length}
 use borrow.Author.Tests.{eq-eqb, ne-eqb, le-ltb}
 use Rattle.net.specs.declared.Descriptor.{Descriptor}
 use Rattle.state.specs.declared.Interface.{Interface}
-use Rattle.state.specs.declared.Thread.{Thread}
 use Rattle.state.specs.declared.Thread.the-variants.{Running, Waiting}
 use Rattle.state.specs.Threads.{ended, waiting}
 use Rattle.queues.specs.Moves.{firstHead}
