@@ -1,4 +1,4 @@
--- What every step does, in one record: the theorems over runs cite it and look into no step.
+-- What every step does, in one record, which the theorems over runs cite.
 -- Assumes nothing.
 use mathlib.Core.Path.{_≡_, _∙_}
 use mathlib.Core.List.{List, [], _∷_, _++_}
