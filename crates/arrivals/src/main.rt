@@ -247,6 +247,141 @@ fn opened(store: &mut [u8; 40960]) -> Host {
     h
 }
 
+// ---- 1, 2 and the out step's 16, each before what would come next
+
+fn entries(store: &mut [u8; 40960], short: &mut [u8; 40959], icount: u8) {
+    let mut h = opened(store);
+    h.icount = icount;
+    let f = flow(MARTIAN, 6000, EIGHT, 7000);
+    let mut buffer = [170u8; 511];
+    let mut s = h.datagram(short, f, &buffer);
+    say_entry(b"datagram, store of 40959,", icount, s.answer);
+    s = h.notice(short, MARTIAN, EIGHT, f);
+    say_entry(b"notice, store of 40959,", icount, s.answer);
+    s = h.out_step(short, &mut buffer);
+    say_entry(b"out into 511, store of 40959,", icount, s.answer);
+    s = h.out_step(store, &mut buffer);
+    say_entry(b"out into 511,", icount, s.answer);
+}
+
+// ---- datagrams
+
+fn datagrams(store: &mut [u8; 40960]) {
+    // Document 01's example.
+    let mut h = opened(store);
+    h = arrive(h, store, NINE, 6000, OURS, 7000, 1);
+    h = arrive(h, store, NINE, 6001, OURS, 7000, 2);
+    h = arrive(h, store, EIGHT, 6000, OURS, 7000, 3);
+    h = arrive(h, store, NINE, 6000, OURS, 7001, 4);
+    // "Fourth queued 20, fifth 21", and the first is read first.
+    h = crowded(h, store, 2, 7000);
+    h = arrive(h, store, NINE, 6000, OURS, 7000, 5);
+    h = arrive(h, store, NINE, 6000, OURS, 7000, 6);
+    h = read(h, store, 3);
+    h = read(h, store, 3);
+}
+
+fn refusals(store: &mut [u8; 40960]) {
+    // 24 before 25 before 26; "127/8 counts as not ours here".
+    let mut h = opened(store);
+    h = arrive(h, store, MARTIAN, 6000, EIGHT, 7000, 1);
+    h = arrive(h, store, NINE, 6000, LOOPBACK, 7000, 1);
+    h = arrive(h, store, MARTIAN, 6000, OURS, 7000, 1);
+    h = arrive_long(h, store, LOOPBACK);
+    h = arrive_long(h, store, NINE);
+    // "Destination port 0 matches nobody": the first notice. The sixteenth is 22 too, then the out-queue is full.
+    h = arrive(h, store, NINE, 6000, OURS, 0, 1);
+    h = crowded(h, store, 14, 7001);
+    h = arrive(h, store, NINE, 6000, OURS, 7001, 1);
+    h = arrive(h, store, NINE, 6000, OURS, 7001, 1);
+    h = out(h, store);
+}
+
+// ---- notices
+
+fn notices(store: &mut [u8; 40960]) {
+    // "24 by the outer destination; 25 if any of its four addresses is martian or loopback".
+    let mut h = opened(store);
+    h = hear(h, store, MARTIAN, EIGHT, OURS, 7000, NINE, 6000);
+    h = hear(h, store, MARTIAN, OURS, OURS, 7000, NINE, 6000);
+    h = hear(h, store, NINE, OURS, LOOPBACK, 7000, NINE, 6000);
+    h = hear(h, store, NINE, OURS, OURS, 7000, MARTIAN, 6000);
+    // "The embedded source as local side": socket 3 sent the second of these, and nobody the first.
+    h = hear(h, store, NINE, OURS, NINE, 6000, OURS, 7000);
+    h = hear(h, store, NINE, OURS, OURS, 7000, NINE, 6000);
+    h = read(h, store, 3);
+    h = read(h, store, 3);
+    // Under bsdcompat: 28 with no remote address, 27 with one.
+    h = hear(h, store, NINE, OURS, OURS, 7006, NINE, 6000);
+    h = read(h, store, 6);
+    h = hear(h, store, NINE, OURS, OURS, 7007, NINE, 6000);
+    h = read(h, store, 7);
+}
+
+// ---- the out step
+
+// 31, 30, 32; to our own configured address and from a loopback source it is 30.
+fn leaving(store: &mut [u8; 40960]) {
+    let mut h = opened(store);
+    h = out(h, store);
+    h = sent(h, store, 4, NINE, 6000);
+    h = out(h, store);
+    h = sent(h, store, 4, MARTIAN, 6000);
+    h = out(h, store);
+    h = sent(h, store, 4, OURS, 7000);
+    h = out(h, store);
+    h = sent(h, store, 5, NINE, 6000);
+    h = out(h, store);
+}
+
+fn inside(store: &mut [u8; 40960]) {
+    // 20, then 21 behind four others.
+    let mut h = opened(store);
+    h = sent(h, store, 5, LOOPBACK, 7004);
+    h = out(h, store);
+    h = read(h, store, 4);
+    h = crowded(h, store, 4, 7004);
+    h = sent(h, store, 5, LOOPBACK, 7004);
+    h = out(h, store);
+    // "A notice is queued only if the sender's address is loopback, else 23".
+    h = sent(h, store, 1, LOOPBACK, 7001);
+    h = out(h, store);
+    // 22, and the next step is 27 for the sender; under bsdcompat 28.
+    h = sent(h, store, 4, LOOPBACK, 7001);
+    h = out(h, store);
+    h = out(h, store);
+    h = read(h, store, 4);
+    h = sent(h, store, 6, LOOPBACK, 7001);
+    h = out(h, store);
+    h = out(h, store);
+}
+
+// ---- after exit: arrivals are answered, the out-queue stays, and no socket is left to hear
+
+fn exited(store: &mut [u8; 40960]) {
+    let mut h = opened(store);
+    h = sent(h, store, 4, LOOPBACK, 7001);
+    h = out(h, store);
+    h = sent(h, store, 4, NINE, 6000);
+    h = ended(h, store);
+    h = read(h, store, 4);
+    h = arrive(h, store, NINE, 6000, OURS, 7004, 1);
+    h = hear(h, store, NINE, OURS, OURS, 7004, NINE, 6000);
+    h = out(h, store);
+    h = out(h, store);
+    h = out(h, store);
+    h = out(h, store);
+}
+
 fn main() {
-    address(NINE);
+    let mut store = [0u8; 40960];
+    let mut short = [0u8; 40959];
+    entries(&mut store, &mut short, 9);
+    entries(&mut store, &mut short, 1);
+    datagrams(&mut store);
+    refusals(&mut store);
+    notices(&mut store);
+    leaving(&mut store);
+    inside(&mut store);
+    exited(&mut store);
 }
