@@ -1,3 +1,5 @@
 pub mod Fields
 pub mod Steps
 pub mod Lines
+pub mod Playing
+pub mod Whole

@@ -15,6 +15,8 @@ ghost use Rattle.host.specs.Answers.{plain};
 ghost use Rattle.script.specs.Steps.{made, making};
 
 pub mod lines;
+pub mod playing;
+pub mod whole;
 
 // A step's 16 bytes.
 pub struct Fields {
@@ -32,6 +34,14 @@ pub struct Made {
     pub host: Host,
     pub answer: Answer,
     pub known: bool,
+}
+
+// The host after n steps, and where the text ends.
+pub struct Play {
+    pub host: Host,
+    pub at: usize,
+    pub n: u32,
+    pub ended: bool,
 }
 
 // ---- numbers, all big-endian
