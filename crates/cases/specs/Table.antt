@@ -12,7 +12,7 @@ use Rattle.matching.specs.Ports.{autoPort}
 use Rattle.queues.specs.Moves.{headOf, noQueues}
 use Rattle.outqueue.specs.Moves.{noItems}
 use Rattle.delivery.specs.Landing.{Landed, landing}
-use Rattle.host.specs.Tables.{first}
+use Rattle.answers.specs.Tables.{first}
 use Rattle.host.specs.Naming.{bindRows}
 use Rattle.cases.specs.Example.{ip, flow, four, hosting, bound}
 

@@ -26,22 +26,23 @@ use Rattle.queues.specs.Held.{Datagram, SameQueue, held}
 use Rattle.outqueue.specs.declared.OutQueue.{OutQueue}
 use Rattle.outqueue.specs.Fits.{OutFit}
 use Rattle.outqueue.specs.Held.{Parcel, waitingOut}
-use Rattle.delivery.specs.Landing.{Landed, landing, arriving, leavesNotice}
+use Rattle.delivery.specs.Landing.{Landed, leavesNotice}
 use Rattle.delivery.specs.declared.Hearing.{Hearing}
 use Rattle.delivery.specs.Hearing.{turned, senderOf, listens, hearing}
 use Rattle.delivery.proofs.Facts.{Facts, landing-facts}
 use Rattle.host.specs.declared.Host.{Host}
 use Rattle.host.specs.declared.Stepped.{Stepped}
 use Rattle.host.specs.Form.{socketAt}
-use Rattle.host.specs.Answers.{Outcome, gives, unless, plain}
+use Rattle.answers.specs.Answers.{plain}
+use Rattle.host.specs.Answers.{Outcome, gives, unless}
 use Rattle.host.specs.Moves.{withSocket, withQueues, withOut}
-use Rattle.host.specs.Tables.{first}
+use Rattle.answers.specs.Tables.{first}
 use Rattle.host.specs.Arrivals.{datagramRows, noticeRows, landedIn, arrived, heardStep, noticed}
 use Rattle.host.proofs.Passed.{arrivable}
 use Rattle.history.specs.Sound.{Sound}
 use Rattle.history.specs.Frame.{Picks, Untouched}
 use Rattle.history.specs.Order.{holds, comes, arrivingAs}
-use Rattle.history.specs.Outgoing.{queuedIn, takes}
+use Rattle.history.specs.Outgoing.{queuedIn}
 use Rattle.history.specs.Steps.{World}
 use Rattle.history.proofs.Moves.{parts, fitting, socket-kept, queues-kept, out-kept}
 use Rattle.history.proofs.Rows.{rows-all}

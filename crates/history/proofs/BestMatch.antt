@@ -15,7 +15,7 @@ use Rattle.state.specs.Places.{socketIn}
 use Rattle.matching.specs.Scores.{scoreOf, bestOf}
 use Rattle.matching.proofs.Winner.{winner-is}
 use Rattle.queues.specs.Held.{Datagram}
-use Rattle.host.specs.declared.Answer.{Answer}
+use Rattle.answers.specs.declared.Answer.{Answer}
 use Rattle.history.specs.Steps.{World, Step, after, socket, bind, connect, disconnect, getsockname, getpeername, geterr, getopt, setopt, sendto, recvfrom, resume, interrupt, poll, close, exit, datagram, notice, outstep}
 use Rattle.history.specs.Frame.{Picks}
 use Rattle.history.specs.Order.{comes, deliveredBy, arrivingAs, comingBack}

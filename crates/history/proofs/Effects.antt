@@ -26,12 +26,14 @@ use Rattle.delivery.specs.Landing.{Landed, landing, loopHead}
 use Rattle.delivery.specs.Hearing.{hearing}
 use Rattle.delivery.proofs.Cases.{landing-cases}
 use Rattle.host.specs.declared.Host.{Host}
-use Rattle.host.specs.declared.Answer.{Answer}
+use Rattle.answers.specs.declared.Answer.{Answer}
 use Rattle.host.specs.declared.Stepped.{Stepped}
 use Rattle.host.specs.Form.{socketAt, countAt}
-use Rattle.host.specs.Answers.{Outcome, outcome, gives, unless, plain}
+use Rattle.answers.specs.Answers.{plain}
+use Rattle.host.specs.Answers.{Outcome, outcome, gives, unless}
 use Rattle.host.specs.Moves.{withQueues, withOut, withThread}
-use Rattle.host.specs.Tables.{firstOr, aliveRows, callRows}
+use Rattle.answers.specs.Tables.{firstOr}
+use Rattle.host.specs.Tables.{aliveRows, callRows}
 use Rattle.host.specs.Naming.{socketed, bound, connected, disconnected, localGiven, peerGiven}
 use Rattle.host.specs.Options.{withoutError, errorGiven, optionGiven, optionSet}
 use Rattle.host.specs.Sending.{sendRows, queuedOut, sent}

@@ -41,7 +41,8 @@ use Rattle.outqueue.proofs.Held.{add-sized, add-fit}
 use Rattle.outqueue.proofs.Held as outs
 use Rattle.host.specs.declared.Host.{Host}
 use Rattle.host.specs.Form.{socketAt, countAt}
-use Rattle.host.specs.Answers.{Outcome, gives, unless, plain}
+use Rattle.answers.specs.Answers.{plain}
+use Rattle.host.specs.Answers.{Outcome, gives, unless}
 use Rattle.host.specs.Moves.{withSocket, withQueues, withOut, withThread}
 use Rattle.host.specs.Tables.{aliveRows}
 use Rattle.host.specs.Entered.{Ready, Called, Holding}
@@ -49,7 +50,8 @@ use Rattle.host.specs.Naming.{socketed, bindRows, bound, sourceFor, connectRows
 use Rattle.host.specs.Opening.{emptyHost, openingRefusal, opened}
 use Rattle.host.specs.Polling.{polledOf}
 use Rattle.host.specs.Closing.{closed, exitHost, exited}
-use Rattle.host.specs.Options.{withoutError, errorGiven, optionGiven, optionSet, unknownOption}
+use Rattle.answers.specs.Tables.{unknownOption}
+use Rattle.host.specs.Options.{withoutError, errorGiven, optionGiven, optionSet}
 use Rattle.host.specs.Sending.{target, sendRows, autobound, flowOf, queuedOut, sent}
 use Rattle.host.specs.Sending.{portOf}
 use Rattle.host.specs.Reading.{oldestTaken, waitingOn, received, resumeRefusal, awaitedBy, resumedOn, resumed, interrupted}

@@ -33,10 +33,12 @@ use Rattle.delivery.proofs.Cases.{landing-cases}
 use Rattle.host.specs.declared.Host.{Host}
 use Rattle.host.specs.declared.Stepped.{Stepped}
 use Rattle.host.specs.Form.{wellFormed, socketAt, countAt}
-use Rattle.host.specs.Answers.{Outcome, gives, unless, plain}
-use Rattle.host.specs.Tables.{firstOr, readyRows, aliveRows, entryRows, callRows}
+use Rattle.answers.specs.Answers.{plain}
+use Rattle.host.specs.Answers.{Outcome, gives, unless}
+use Rattle.answers.specs.Tables.{firstOr, unknownOption}
+use Rattle.host.specs.Tables.{readyRows, aliveRows, entryRows, callRows}
 use Rattle.host.specs.Naming.{socketed, bindRows, bound, connectRows, connected, disconnected, localGiven, peerGiven}
-use Rattle.host.specs.Options.{errorGiven, optionGiven, optionSet, unknownOption}
+use Rattle.host.specs.Options.{errorGiven, optionGiven, optionSet}
 use Rattle.host.specs.Sending.{sendRows, queuedOut, sent}
 use Rattle.host.specs.Reading.{oldestTaken, received, awaitedBy, resumedOn, resumed, interrupted}
 use Rattle.host.specs.Polling.{allOpen, polledOf}

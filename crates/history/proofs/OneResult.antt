@@ -11,7 +11,9 @@ use Rattle.net.specs.declared.InterfaceId.{InterfaceId}
 use Rattle.net.specs.declared.Port.{Port}
 use Rattle.outqueue.specs.declared.OutQueue.{OutQueue}
 use Rattle.queues.specs.declared.Queues.{Queues}
+use Rattle.state.specs.declared.Interface.{Interface}
 use Rattle.state.specs.declared.Socket.{Socket}
+use Rattle.answers.specs.declared.Answer.{Answer}
 use Rattle.queues.specs.Moves as queues
 use Rattle.outqueue.specs.Moves as out
 use Rattle.delivery.specs.Landing.{Landed, landed}
@@ -28,6 +30,7 @@ use Rattle.store.proofs.slot_copy.Reads as store-slot-copy
 use Rattle.store.proofs.slot_zero.Reads as store-slot-zero
 use Rattle.store.proofs.slots_pop.Reads as store-slots-pop
 use Rattle.store.proofs.slot_read.Reads as store-slot-read
+use Rattle.state.proofs.interfaces.no_interface.Reads as state-interfaces-no-interface
 use Rattle.state.proofs.interfaces.has.Reads as state-interfaces-has
 use Rattle.state.proofs.interfaces.are_accepted.Reads as state-interfaces-are-accepted
 use Rattle.state.proofs.interfaces.is_ours_of.Reads as state-interfaces-is-ours-of
@@ -42,6 +45,21 @@ use Rattle.state.proofs.sockets.is_open.Reads as state-sockets-is-open
 use Rattle.state.proofs.threads.is_thread.Reads as state-threads-is-thread
 use Rattle.state.proofs.threads.is_ended.Reads as state-threads-is-ended
 use Rattle.state.proofs.threads.is_waiting.Reads as state-threads-is-waiting
+use Rattle.answers.proofs.numbered.Reads as answers-numbered
+use Rattle.answers.proofs.with_descriptor.Reads as answers-with-descriptor
+use Rattle.answers.proofs.with_pair.Reads as answers-with-pair
+use Rattle.answers.proofs.with_value.Reads as answers-with-value
+use Rattle.answers.proofs.with_need.Reads as answers-with-need
+use Rattle.answers.proofs.from_sender.Reads as answers-from-sender
+use Rattle.answers.proofs.with_masks.Reads as answers-with-masks
+use Rattle.answers.proofs.with_item.Reads as answers-with-item
+use Rattle.answers.proofs.tables.row.Reads as answers-tables-row
+use Rattle.answers.proofs.tables.opening_rows.Reads as answers-tables-opening-rows
+use Rattle.answers.proofs.tables.bind_rows.Reads as answers-tables-bind-rows
+use Rattle.answers.proofs.tables.connect_rows.Reads as answers-tables-connect-rows
+use Rattle.answers.proofs.tables.is_unknown.Reads as answers-tables-is-unknown
+use Rattle.answers.proofs.tables.set_rows.Reads as answers-tables-set-rows
+use Rattle.answers.proofs.tables.send_rows.Reads as answers-tables-send-rows
 use Rattle.matching.proofs.ports.is_in_use.Reads as matching-ports-is-in-use
 use Rattle.matching.proofs.ports.is_port_free.Reads as matching-ports-is-port-free
 use Rattle.matching.proofs.ports.autobind.Reads as matching-ports-autobind
@@ -115,6 +133,7 @@ pub record OneResult : Type 0 where
   pub store-slots-pop-once : Fixed {W = List ℕ} store-slots-pop.Post (λ k a r e. e .0 .now)
   pub store-slot-read-once : Fixed {W = List ℕ} store-slot-read.Post (λ k a r e. e .1 .1 .0 .now)
   -- state
+  pub state-interfaces-no-interface-once : Fixed {W = Interface} state-interfaces-no-interface.Post (λ k a r e. r)
   pub state-interfaces-has-once : Fixed {W = Bool} state-interfaces-has.Post (λ k a r e. r)
   pub state-interfaces-are-accepted-once : Fixed {W = Bool} state-interfaces-are-accepted.Post (λ k a r e. r)
   pub state-interfaces-is-ours-of-once : Fixed {W = Bool} state-interfaces-is-ours-of.Post (λ k a r e. r)
@@ -130,6 +149,21 @@ pub record OneResult : Type 0 where
   pub state-threads-is-ended-once : Fixed {W = Bool} state-threads-is-ended.Post (λ k a r e. r)
   pub state-threads-is-waiting-once : Fixed {W = Bool} state-threads-is-waiting.Post (λ k a r e. r)
   -- matching
+  pub answers-numbered-once : Fixed {W = Answer} answers-numbered.Post (λ k a r e. r)
+  pub answers-with-descriptor-once : Fixed {W = Answer} answers-with-descriptor.Post (λ k a r e. r)
+  pub answers-with-pair-once : Fixed {W = Answer} answers-with-pair.Post (λ k a r e. r)
+  pub answers-with-value-once : Fixed {W = Answer} answers-with-value.Post (λ k a r e. r)
+  pub answers-with-need-once : Fixed {W = Answer} answers-with-need.Post (λ k a r e. r)
+  pub answers-from-sender-once : Fixed {W = Answer} answers-from-sender.Post (λ k a r e. r)
+  pub answers-with-masks-once : Fixed {W = Answer} answers-with-masks.Post (λ k a r e. r)
+  pub answers-with-item-once : Fixed {W = Answer} answers-with-item.Post (λ k a r e. r)
+  pub answers-tables-row-once : Fixed {W = ℕ} answers-tables-row.Post (λ k a r e. r)
+  pub answers-tables-opening-rows-once : Fixed {W = ℕ} answers-tables-opening-rows.Post (λ k a r e. r)
+  pub answers-tables-bind-rows-once : Fixed {W = ℕ} answers-tables-bind-rows.Post (λ k a r e. r)
+  pub answers-tables-connect-rows-once : Fixed {W = ℕ} answers-tables-connect-rows.Post (λ k a r e. r)
+  pub answers-tables-is-unknown-once : Fixed {W = Bool} answers-tables-is-unknown.Post (λ k a r e. r)
+  pub answers-tables-set-rows-once : Fixed {W = ℕ} answers-tables-set-rows.Post (λ k a r e. r)
+  pub answers-tables-send-rows-once : Fixed {W = ℕ} answers-tables-send-rows.Post (λ k a r e. r)
   pub matching-ports-is-in-use-once : Fixed {W = Bool} matching-ports-is-in-use.Post (λ k a r e. r)
   pub matching-ports-is-port-free-once : Fixed {W = Bool} matching-ports-is-port-free.Post (λ k a r e. r)
   pub matching-ports-autobind-once : Fixed {W = ℕ} matching-ports-autobind.Post (λ k a r e. r .0)
@@ -203,6 +237,7 @@ one-result =
       store-slot-zero-once = record { fixed = λ k a r r' e e' p q. p ∙ sym q };
       store-slots-pop-once = record { fixed = λ k a r r' e e' p q. p ∙ sym q };
       store-slot-read-once = record { fixed = λ k a r r' e e' p q. p ∙ sym q };
+      state-interfaces-no-interface-once = record { fixed = λ k a r r' e e' p q. p ∙ sym q };
       state-interfaces-has-once = record { fixed = λ k a r r' e e' p q. p ∙ sym q };
       state-interfaces-are-accepted-once = record { fixed = λ k a r r' e e' p q. p ∙ sym q };
       state-interfaces-is-ours-of-once = record { fixed = λ k a r r' e e' p q. p ∙ sym q };
@@ -217,6 +252,21 @@ one-result =
       state-threads-is-thread-once = record { fixed = λ k a r r' e e' p q. p ∙ sym q };
       state-threads-is-ended-once = record { fixed = λ k a r r' e e' p q. p ∙ sym q };
       state-threads-is-waiting-once = record { fixed = λ k a r r' e e' p q. p ∙ sym q };
+      answers-numbered-once = record { fixed = λ k a r r' e e' p q. p ∙ sym q };
+      answers-with-descriptor-once = record { fixed = λ k a r r' e e' p q. p ∙ sym q };
+      answers-with-pair-once = record { fixed = λ k a r r' e e' p q. p ∙ sym q };
+      answers-with-value-once = record { fixed = λ k a r r' e e' p q. p ∙ sym q };
+      answers-with-need-once = record { fixed = λ k a r r' e e' p q. p ∙ sym q };
+      answers-from-sender-once = record { fixed = λ k a r r' e e' p q. p ∙ sym q };
+      answers-with-masks-once = record { fixed = λ k a r r' e e' p q. p ∙ sym q };
+      answers-with-item-once = record { fixed = λ k a r r' e e' p q. p ∙ sym q };
+      answers-tables-row-once = record { fixed = λ k a r r' e e' p q. p ∙ sym q };
+      answers-tables-opening-rows-once = record { fixed = λ k a r r' e e' p q. p ∙ sym q };
+      answers-tables-bind-rows-once = record { fixed = λ k a r r' e e' p q. p ∙ sym q };
+      answers-tables-connect-rows-once = record { fixed = λ k a r r' e e' p q. p ∙ sym q };
+      answers-tables-is-unknown-once = record { fixed = λ k a r r' e e' p q. p ∙ sym q };
+      answers-tables-set-rows-once = record { fixed = λ k a r r' e e' p q. p ∙ sym q };
+      answers-tables-send-rows-once = record { fixed = λ k a r r' e e' p q. p ∙ sym q };
       matching-ports-is-in-use-once = record { fixed = λ k a r r' e e' p q. p ∙ sym q };
       matching-ports-is-port-free-once = record { fixed = λ k a r r' e e' p q. p ∙ sym q };
       matching-ports-autobind-once = record { fixed = λ k a r r' e e' p q. p ∙ sym q };

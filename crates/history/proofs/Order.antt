@@ -29,12 +29,14 @@ use Rattle.outqueue.specs.declared.OutQueue.{OutQueue}
 use Rattle.outqueue.specs.Moves.{Room}
 use Rattle.outqueue.proofs.Held.{add-length, add-before}
 use Rattle.host.specs.declared.Host.{Host}
-use Rattle.host.specs.declared.Answer.{Answer}
+use Rattle.answers.specs.declared.Answer.{Answer}
 use Rattle.host.specs.Form.{socketAt, countAt}
-use Rattle.host.specs.Answers.{Outcome, gives, unless, plain, needing, readOf}
+use Rattle.answers.specs.Answers.{plain, needing, readOf}
+use Rattle.host.specs.Answers.{Outcome, gives, unless}
 use Rattle.host.specs.Moves.{withSocket, withQueues, withOut, withThread}
 use Rattle.host.specs.Entered.{Ready, Holding}
-use Rattle.host.specs.Tables.{first, entryRows}
+use Rattle.answers.specs.Tables.{first}
+use Rattle.host.specs.Tables.{entryRows}
 use Rattle.host.specs.Naming.{callRefusal, socketRefusal, socketed, bound, connected, disconnected, localGiven, peerGiven}
 use Rattle.host.specs.Options.{withoutError, errorGiven, optionGiven, optionSet}
 use Rattle.host.specs.Sending.{queuedOut, sent}

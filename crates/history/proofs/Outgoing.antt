@@ -18,9 +18,10 @@ use Rattle.outqueue.specs.Moves.{Room}
 use Rattle.outqueue.specs.Held.{waitingOut}
 use Rattle.outqueue.proofs.Held.{out-same, add-held}
 use Rattle.host.specs.declared.Host.{Host}
-use Rattle.host.specs.declared.Answer.{Answer}
+use Rattle.answers.specs.declared.Answer.{Answer}
 use Rattle.host.specs.Form.{socketAt, countAt}
-use Rattle.host.specs.Answers.{Outcome, gives, unless, plain}
+use Rattle.answers.specs.Answers.{plain}
+use Rattle.host.specs.Answers.{Outcome, gives, unless}
 use Rattle.host.specs.Moves.{withSocket, withQueues, withOut, withThread}
 use Rattle.host.specs.Entered.{Ready, Holding}
 use Rattle.host.specs.Naming.{socketed, bound, connected, disconnected, localGiven, peerGiven}

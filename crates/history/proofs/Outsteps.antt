@@ -28,17 +28,18 @@ use Rattle.delivery.specs.Hearing.{turned, hearing}
 use Rattle.delivery.proofs.Cases.{landing-cases}
 use Rattle.delivery.proofs.Facts.{landing-facts}
 use Rattle.host.specs.declared.Host.{Host}
-use Rattle.host.specs.declared.Answer.{Answer}
+use Rattle.answers.specs.declared.Answer.{Answer}
 use Rattle.host.specs.declared.Stepped.{Stepped}
-use Rattle.host.specs.Answers.{Outcome, outcome, gives, unless, plain}
+use Rattle.answers.specs.Answers.{plain}
+use Rattle.host.specs.Answers.{Outcome, outcome, gives, unless}
 use Rattle.host.specs.Moves.{withQueues, withOut}
-use Rattle.host.specs.Tables.{first}
+use Rattle.answers.specs.Tables.{first}
 use Rattle.host.specs.Arrivals.{landedIn, heardStep}
 use Rattle.host.specs.Emitting.{outRows, oldestItem, withoutOldest, bytesWithout, handledInside, leaving, stepped, Leaving}
 use Rattle.host.proofs.Passed.{leavable, oldest-small}
 use Rattle.history.specs.Sound.{Sound}
 use Rattle.history.specs.Frame.{Picks, soughtBy}
-use Rattle.history.specs.Order.{holds, comes, firstOut, comingBack}
+use Rattle.history.specs.Order.{holds, firstOut, comingBack}
 use Rattle.history.specs.Outgoing.{queuedIn, takes}
 use Rattle.history.specs.Steps.{World}
 use Rattle.history.proofs.Moves.{parts, out-kept}

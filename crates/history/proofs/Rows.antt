@@ -5,7 +5,7 @@ use mathlib.Core.List.{List, [], _∷_}
 use mathlib.Core.Bool.{Bool, true, _&&_}
 use Prim.Native.Nat.{ℕ}
 use Rattle.laws.proofs.Tests.{cond-cases, and-left, and-right}
-use Rattle.host.specs.Tables.{firstOr}
+use Rattle.answers.specs.Tables.{firstOr}
 
 abbrev pub allRows : (ℕ → Bool) → List (Bool × ℕ) → Bool
 allRows p [] = true

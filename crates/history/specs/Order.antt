@@ -12,8 +12,9 @@ use Rattle.queues.specs.Moves.{headOf}
 use Rattle.queues.specs.Held.{Datagram, held, oldest}
 use Rattle.outqueue.specs.Held.{Parcel, oldestOut}
 use Rattle.delivery.specs.Landing.{loopHead}
-use Rattle.host.specs.declared.Answer.{Answer}
-use Rattle.host.specs.Answers.{Outcome, readOf}
+use Rattle.answers.specs.declared.Answer.{Answer}
+use Rattle.answers.specs.Answers.{readOf}
+use Rattle.host.specs.Answers.{Outcome}
 use Rattle.host.specs.Reading.{awaitedBy}
 use Rattle.history.specs.Steps.{World, Step, after, socket, bind, connect, disconnect, getsockname, getpeername, geterr, getopt, setopt, sendto, recvfrom, resume, interrupt, poll, close, exit, datagram, notice, outstep}
 

@@ -24,10 +24,12 @@ use Rattle.net.specs.declared.Port.{Port}
 use Rattle.store.specs.Store.{zeros}
 use Rattle.queues.specs.Moves.{firstHead}
 use Rattle.host.specs.declared.Host.{Host}
-use Rattle.host.specs.declared.Answer.{Answer}
+use Rattle.answers.specs.declared.Answer.{Answer}
 use Rattle.host.specs.Form.{countAt}
-use Rattle.host.specs.Answers.{gives, plain}
-use Rattle.host.specs.Tables.{firstOr, first, readyRows, aliveRows, entryRows, callRows}
+use Rattle.answers.specs.Answers.{plain}
+use Rattle.host.specs.Answers.{gives}
+use Rattle.answers.specs.Tables.{firstOr, first}
+use Rattle.host.specs.Tables.{readyRows, aliveRows, entryRows, callRows}
 use Rattle.host.specs.Entered.{Ready, RunningIn, Called, Holding}
 use Rattle.host.specs.Opening.{emptyHost, endedHost, openingRefusal, opened}
 use Rattle.host.specs.Sending.{sendRows}

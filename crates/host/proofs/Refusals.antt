@@ -6,8 +6,9 @@ use mathlib.Core.Logic.{_≢_}
 use Prim.Native.Nat.{ℕ}
 use borrow.Author.Tests.{eq-eqb, ne-eqb}
 use Rattle.host.specs.declared.Host.{Host}
-use Rattle.host.specs.declared.Answer.{Answer}
-use Rattle.host.specs.Answers.{Outcome, gives, unless, plain}
+use Rattle.answers.specs.declared.Answer.{Answer}
+use Rattle.answers.specs.Answers.{plain}
+use Rattle.host.specs.Answers.{Outcome, gives, unless}
 
 pub refuses : (h : Host) (s b : List ℕ) (o : Outcome) {n m : ℕ} {a : Answer} → m ≡ n → m ≢ 0 → a ≡ plain m → gives h a s b ≡ unless n h s b o
 unfolding unless

@@ -15,9 +15,11 @@ use Rattle.delivery.specs.Hearing.{hearing}
 use Rattle.host.specs.declared.Host.{Host}
 use Rattle.host.specs.declared.Stepped.{Stepped}
 use Rattle.host.specs.Form.{socketAt}
-use Rattle.host.specs.Answers.{Outcome, outcome, unless, plain, told, unchanged}
+use Rattle.answers.specs.Answers.{plain, told}
+use Rattle.host.specs.Answers.{Outcome, outcome, unless, unchanged}
 use Rattle.host.specs.Moves.{withSocket, withQueues, withOut}
-use Rattle.host.specs.Tables.{first, readyRows}
+use Rattle.answers.specs.Tables.{first}
+use Rattle.host.specs.Tables.{readyRows}
 
 -- ---- a datagram
 

@@ -8,9 +8,11 @@ use Rattle.state.specs.Places.{noSocket}
 use Rattle.queues.specs.declared.Queues.{Queues}
 use Rattle.queues.specs.Moves.{cleared, emptied}
 use Rattle.host.specs.declared.Host.{Host}
-use Rattle.host.specs.Answers.{Outcome, gives, unless, plain}
+use Rattle.answers.specs.Answers.{plain}
+use Rattle.host.specs.Answers.{Outcome, gives, unless}
 use Rattle.host.specs.Moves.{withSocket, withQueues}
-use Rattle.host.specs.Tables.{first, entryRows}
+use Rattle.answers.specs.Tables.{first}
+use Rattle.host.specs.Tables.{entryRows}
 use Rattle.host.specs.Naming.{callRefusal}
 
 -- close (000, close.1) zeroes the socket and its slots

@@ -10,21 +10,18 @@ use Rattle.state.specs.declared.OutItem.{OutItem}
 use Rattle.outqueue.specs.Moves.{destinationOf, removed, Some}
 use Rattle.delivery.specs.Landing.{looping}
 use Rattle.host.specs.declared.Host.{Host}
-use Rattle.host.specs.declared.Answer.{Answer}
 use Rattle.host.specs.Form.{itemAt}
-use Rattle.host.specs.Answers.{Outcome, outcome, gives, unless, plain, noPort}
+use Rattle.answers.specs.Answers.{plain, emitted}
+use Rattle.host.specs.Answers.{Outcome, outcome, gives, unless}
 use Rattle.host.specs.Moves.{withOut}
-use Rattle.host.specs.Tables.{first, readyRows}
+use Rattle.answers.specs.Tables.{first}
+use Rattle.host.specs.Tables.{readyRows}
 use Rattle.host.specs.Entered.{Ready}
 use Rattle.host.specs.Arrivals.{landedIn, heardStep}
 
 -- buffer at least 512, else 16; 31 empty
 abbrev pub outRows : Host → ℕ → ℕ → List (Bool × ℕ)
 outRows h room lent = readyRows h room ++ ((ltb lent 512, 16) ∷ (eqb (h .out .count) 0, 31) ∷ [])
-
--- 30 gives the whole item
-abbrev pub emitted : OutItem → Answer
-emitted x = record { item = x; address = 0; port = noPort; len = 0; readable = 0; writable = 0; number = 30; descriptor = record { 0 = 0 }; value = 0 }
 
 -- the oldest item, and the host and the store without it
 abbrev pub oldestItem : Host → OutItem

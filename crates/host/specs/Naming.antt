@@ -12,9 +12,11 @@ use Rattle.matching.specs.Routes.{routeSource}
 use Rattle.binding.specs.Sockets.{newSocket, lowestClosed, withLocal, withRemote, portFor}
 use Rattle.host.specs.declared.Host.{Host}
 use Rattle.host.specs.Form.{socketAt}
-use Rattle.host.specs.Answers.{Outcome, gives, unless, plain, told, named, noPort}
+use Rattle.answers.specs.Answers.{plain, told, named, noPort}
+use Rattle.host.specs.Answers.{Outcome, gives, unless}
 use Rattle.host.specs.Moves.{withSocket}
-use Rattle.host.specs.Tables.{first, entryRows, callRows}
+use Rattle.answers.specs.Tables.{first}
+use Rattle.host.specs.Tables.{entryRows, callRows}
 
 -- ---- socket (000, socket.1; socket.2 is 15): the lowest closed descriptor
 

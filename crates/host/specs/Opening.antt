@@ -14,8 +14,9 @@ use Rattle.store.specs.Store.{zeros}
 use Rattle.queues.specs.Moves.{noQueues}
 use Rattle.outqueue.specs.Moves.{noItems}
 use Rattle.host.specs.declared.Host.{Host}
-use Rattle.host.specs.Answers.{Outcome, gives, plain}
-use Rattle.host.specs.Tables.{first}
+use Rattle.answers.specs.Answers.{plain}
+use Rattle.host.specs.Answers.{Outcome, gives}
+use Rattle.answers.specs.Tables.{first}
 
 -- no socket open, nothing queued
 unfoldable pub emptyHost : List Interface → ℕ → Thread → Host

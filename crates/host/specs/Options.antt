@@ -1,16 +1,18 @@
 -- geterr, getopt, setopt
 use Prim.Native.Nat.{ℕ}
 use mathlib.Core.List.{List, [], _∷_, _++_}
-use mathlib.Core.Bool.{Bool, _&&_, _||_, not, cond}
+use mathlib.Core.Bool.{Bool, _&&_, not, cond}
 use lib.Dec.{eqb}
 use lib.ListN.{length}
 use Rattle.state.specs.declared.Socket.{Socket}
 use Rattle.binding.specs.Sockets.{withError, withOptions}
 use Rattle.host.specs.declared.Host.{Host}
 use Rattle.host.specs.Form.{socketAt}
-use Rattle.host.specs.Answers.{Outcome, gives, unless, plain, valued}
+use Rattle.answers.specs.Answers.{plain, valued}
+use Rattle.host.specs.Answers.{Outcome, gives, unless}
 use Rattle.host.specs.Moves.{withSocket}
-use Rattle.host.specs.Tables.{first, callRows}
+use Rattle.answers.specs.Tables.{first, unknownOption}
+use Rattle.host.specs.Tables.{callRows}
 use Rattle.host.specs.Naming.{callRefusal}
 
 -- socket k without its pending error
@@ -23,9 +25,6 @@ unfoldable pub errorGiven : Host → List ℕ → ℕ → Outcome
 errorGiven h s k = unless (callRefusal h (length s) k) h s [] (gives (withoutError h k) (valued (socketAt h k .error)) s [])
 
 -- ---- getopt, setopt (000, getsockopt.1, setsockopt.1): 1 bsdcompat, 2 reuse; another number is 6
-
-abbrev pub unknownOption : ℕ → Bool
-unknownOption o = not (eqb o 1 || eqb o 2)
 
 abbrev pub optionRefusal : Host → ℕ → ℕ → ℕ → ℕ
 optionRefusal h room k o = first (callRows h room k ++ ((unknownOption o, 6) ∷ []))

@@ -9,8 +9,10 @@ use Rattle.state.specs.Places.{socketIn}
 use Rattle.laws.specs.Below.{allBelow}
 use Rattle.host.specs.declared.Host.{Host}
 use Rattle.host.specs.Form.{socketAt}
-use Rattle.host.specs.Answers.{Outcome, gives, unless, polled}
-use Rattle.host.specs.Tables.{first, entryRows}
+use Rattle.answers.specs.Answers.{polled}
+use Rattle.host.specs.Answers.{Outcome, gives, unless}
+use Rattle.answers.specs.Tables.{first}
+use Rattle.host.specs.Tables.{entryRows}
 
 -- bit k of a mask
 abbrev pub bit : ℕ → ℕ → Bool

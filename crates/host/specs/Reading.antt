@@ -10,9 +10,11 @@ use Rattle.state.specs.Threads.{waiting}
 use Rattle.queues.specs.Moves.{firstHead, taken}
 use Rattle.host.specs.declared.Host.{Host}
 use Rattle.host.specs.Form.{socketAt, countAt}
-use Rattle.host.specs.Answers.{Outcome, gives, unless, plain, needing, readOf}
+use Rattle.answers.specs.Answers.{plain, needing, readOf}
+use Rattle.host.specs.Answers.{Outcome, gives, unless}
 use Rattle.host.specs.Moves.{withQueues, withThread}
-use Rattle.host.specs.Tables.{first, aliveRows}
+use Rattle.answers.specs.Tables.{first}
+use Rattle.host.specs.Tables.{aliveRows}
 use Rattle.host.specs.Naming.{callRefusal}
 use Rattle.host.specs.Options.{withoutError}
 use Rattle.host.specs.Sending.{autobound}

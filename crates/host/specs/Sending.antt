@@ -12,9 +12,10 @@ use Rattle.binding.specs.Sockets.{withLocal, portFor}
 use Rattle.outqueue.specs.Moves.{withItem, datagramOf}
 use Rattle.host.specs.declared.Host.{Host}
 use Rattle.host.specs.Form.{socketAt}
-use Rattle.host.specs.Answers.{Outcome, gives, unless, plain}
+use Rattle.answers.specs.Answers.{plain}
+use Rattle.host.specs.Answers.{Outcome, gives, unless}
 use Rattle.host.specs.Moves.{withSocket, withOut}
-use Rattle.host.specs.Tables.{first}
+use Rattle.answers.specs.Tables.{first}
 use Rattle.host.specs.Naming.{callRefusal, sourceFor}
 use Rattle.host.specs.Options.{withoutError}
 

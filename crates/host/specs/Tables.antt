@@ -1,21 +1,12 @@
 -- The refusals: document 01, "Order for calls: 1, 2, 3, 4, 5, then as listed per call"
 use Prim.Native.Nat.{ℕ}
 use mathlib.Core.List.{List, [], _∷_, _++_}
-use mathlib.Core.Bool.{Bool, not, cond}
+use mathlib.Core.Bool.{Bool, not}
 use lib.Dec.{eqb}
 use Rattle.state.specs.Sockets.{openAt}
 use Rattle.state.specs.Threads.{ended, waiting}
 use Rattle.host.specs.declared.Host.{Host}
 use Rattle.host.specs.Form.{wellFormed}
-
--- the number of the first row whose test holds; m where none does
-abbrev pub firstOr : List (Bool × ℕ) → ℕ → ℕ
-firstOr [] m = m
-firstOr (r ∷ rs) m = cond (r .0) (r .1) (firstOr rs m)
-
--- 0 where none does
-abbrev pub first : List (Bool × ℕ) → ℕ
-first rs = firstOr rs 0
 
 -- record and store
 abbrev pub readyRows : Host → ℕ → List (Bool × ℕ)

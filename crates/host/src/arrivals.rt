@@ -1,13 +1,14 @@
 // Arriving datagrams and arriving notices.
 use crate::Host;
 use crate::Stepped;
+use answers::tables;
 use net::Flow;
 ghost use mathlib.Core.Path.{_≡_};
 ghost use mathlib.Core.List.{[]};
 ghost use mathlib.Core.Bool.{_||_};
 ghost use Rattle.net.specs.Address.{stray};
 ghost use Rattle.host.specs.Answers.{outcome};
-ghost use Rattle.host.specs.Tables.{first};
+ghost use Rattle.answers.specs.Tables.{first};
 ghost use Rattle.host.specs.Arrivals.{datagramRows, arrived, noticeRows, noticed};
 
 // One of a notice's four addresses is martian or loopback: the outer pair, or the embedded one.
@@ -29,10 +30,10 @@ impl Host {
         let stray = net::is_stray(flow.src);
         self.ready_rows(
             room,
-            crate::row(
+            tables::row(
                 !own,
                 24,
-                crate::row(stray, 25, crate::row(512 < len, 26, 0)),
+                tables::row(stray, 25, tables::row(512 < len, 26, 0)),
             ),
         )
     }
@@ -63,7 +64,7 @@ impl Host {
         let interfaces = self.interfaces;
         let own = state::interfaces::is_own(interfaces, dst);
         let stray = is_stray_notice(src, dst, flow);
-        self.ready_rows(room, crate::row(!own, 24, crate::row(stray, 25, 0)))
+        self.ready_rows(room, tables::row(!own, 24, tables::row(stray, 25, 0)))
     }
 
     // A PORT or HOST notice from src to dst that embeds the flow; both are heard alike.

@@ -24,7 +24,7 @@ impl Host {
         let h = self.with_socket(k, binding::no_socket());
         Stepped {
             host: h.with_queues(empty),
-            answer: crate::numbered(0),
+            answer: answers::numbered(0),
         }
     }
 
@@ -55,7 +55,7 @@ impl Host {
         let empty = Queues::clear_all(store);
         Stepped {
             host: self.after_exit(empty),
-            answer: crate::numbered(0),
+            answer: answers::numbered(0),
         }
     }
 }

@@ -1,22 +1,13 @@
 // The out step.
-use crate::Answer;
 use crate::Host;
 use crate::Stepped;
-use state::OutItem;
+use answers::tables;
 ghost use mathlib.Core.Path.{_≡_};
 ghost use lib.ListN.{length};
 ghost use Rattle.outqueue.specs.Moves.{Some};
 ghost use Rattle.host.specs.Answers.{outcome};
-ghost use Rattle.host.specs.Tables.{first};
-ghost use Rattle.host.specs.Emitting.{outRows, emitted, withoutOldest, bytesWithout, handledInside, leaving, stepped, Leaving};
-
-fn with_item(x: OutItem) -> Answer
-    ensures { λ r. ⌜ r ≡ emitted x ⌝ }
-{
-    let mut a = crate::numbered(30);
-    a.item = x;
-    a
-}
+ghost use Rattle.answers.specs.Tables.{first};
+ghost use Rattle.host.specs.Emitting.{outRows, withoutOldest, bytesWithout, handledInside, leaving, stepped, Leaving};
 
 impl Host {
     // Rows 1 and 2, then 16 and 31.
@@ -25,7 +16,7 @@ impl Host {
     {
         self.ready_rows(
             room,
-            crate::row(lent < 512, 16, crate::row(self.out.count == 0, 31, 0)),
+            tables::row(lent < 512, 16, tables::row(self.out.count == 0, 31, 0)),
         )
     }
 
@@ -75,7 +66,7 @@ impl Host {
         store::slot_read(store, 32768, buffer, x.len as usize);
         Stepped {
             host: self.without_oldest(store),
-            answer: with_item(x),
+            answer: answers::with_item(x),
         }
     }
 

@@ -1,26 +1,24 @@
 // The host's record, what a step gives back, and the checks that every step begins with. The calls stand in the modules.
+use answers::Answer;
+use answers::tables;
 use delivery::Landing;
-use net::Descriptor;
 use net::Flow;
-use net::Port;
 use outqueue::OutQueue;
 use queues::Queues;
 use state::Interface;
-use state::OutItem;
-use state::Queued;
 use state::Socket;
 use state::Thread;
 ghost use mathlib.Core.Path.{_≡_};
-ghost use mathlib.Core.Bool.{cond};
 ghost use Rattle.state.specs.Places.{socketIn};
 ghost use Rattle.host.specs.Arrivals.{landedStep, heardStep};
 ghost use Rattle.host.specs.Form.{wellFormed, countAt};
-ghost use Rattle.host.specs.Answers.{plain, unchanged, told, named, valued, needing, readOf};
+ghost use Rattle.host.specs.Answers.{unchanged};
 ghost use Rattle.host.specs.Moves.{withSocket, withQueues, withOut, withThread};
 ghost use Rattle.host.specs.Naming.{sourceFor};
 ghost use Rattle.host.specs.Options.{withoutError};
 ghost use Rattle.host.specs.Sending.{autobound};
-ghost use Rattle.host.specs.Tables.{firstOr, readyRows, aliveRows, entryRows, callRows};
+ghost use Rattle.answers.specs.Tables.{firstOr};
+ghost use Rattle.host.specs.Tables.{readyRows, aliveRows, entryRows, callRows};
 
 pub mod arrivals;
 pub mod closing;
@@ -41,99 +39,12 @@ pub struct Host {
     pub icount: u8,
 }
 
-// Document 01's number, and what some answers give; a field that an answer does not use is 0.
-pub struct Answer {
-    pub item: OutItem,
-    pub address: u32,
-    pub port: Port,
-    pub len: u16,
-    pub readable: u16,
-    pub writable: u16,
-    pub number: u8,
-    pub descriptor: Descriptor,
-    pub value: u8,
-}
-
 pub struct Stepped {
     pub host: Host,
     pub answer: Answer,
 }
 
-// ---- answers
-
-fn numbered(n: u8) -> Answer
-    ensures { λ r. ⌜ r ≡ plain n ⌝ }
-{
-    Answer {
-        item: OutItem {
-            flow: net::no_flow(),
-            len: 0,
-            kind: 0,
-        },
-        address: 0,
-        port: Port(0),
-        len: 0,
-        readable: 0,
-        writable: 0,
-        number: n,
-        descriptor: Descriptor(0),
-        value: 0,
-    }
-}
-
-fn with_descriptor(n: u8, k: u8) -> Answer
-    ensures { λ r. ⌜ r ≡ told n k ⌝ }
-{
-    let mut a = numbered(n);
-    let d = Descriptor(k);
-    a.descriptor = d;
-    a
-}
-
-fn with_pair(address: u32, port: Port) -> Answer
-    ensures { λ r. ⌜ r ≡ named address port ⌝ }
-{
-    let mut a = numbered(0);
-    a.address = address;
-    a.port = port;
-    a
-}
-
-fn with_value(v: u8) -> Answer
-    ensures { λ r. ⌜ r ≡ valued v ⌝ }
-{
-    let mut a = numbered(0);
-    a.value = v;
-    a
-}
-
-fn with_need(len: u16) -> Answer
-    ensures { λ r. ⌜ r ≡ needing len ⌝ }
-{
-    let mut a = numbered(16);
-    a.len = len;
-    a
-}
-
-fn from_sender(h: Queued) -> Answer
-    ensures { λ r. ⌜ r ≡ readOf h ⌝ }
-{
-    let mut a = numbered(0);
-    a.address = h.flow.src;
-    let port = h.flow.sport;
-    a.port = port;
-    a.len = h.len;
-    a
-}
-
 // ---- the checks that steps begin with
-
-// A row of a table of refusals: n where c holds, else what the rows below say.
-fn row(c: bool, n: u8, rest: u8) -> u8
-    ensures { λ r. ⌜ r ≡ cond c n rest ⌝ }
-{
-    if c { n } else { rest }
-}
 
 // Socket k; a closed one where there is no such descriptor.
 fn socket_at(sockets: [Socket; 16], k: usize) -> Socket
@@ -170,7 +81,7 @@ impl Host {
     {
         Stepped {
             host: self,
-            answer: numbered(n),
+            answer: answers::numbered(n),
         }
     }
 
@@ -267,7 +178,7 @@ impl Host {
         let h = self.with_queues(queues);
         Stepped {
             host: h.with_out(out),
-            answer: with_descriptor(l.number, l.at),
+            answer: answers::with_descriptor(l.number, l.at),
         }
     }
 
@@ -289,7 +200,7 @@ impl Host {
     fn ready_rows(self, room: usize, rest: u8) -> u8
         ensures { λ r. ⌜ r ≡ firstOr (readyRows self room) rest ⌝ }
     {
-        row(!self.well_formed(), 1, row(room != 40960, 2, rest))
+        tables::row(!self.well_formed(), 1, tables::row(room != 40960, 2, rest))
     }
 
     // Rows 1 to 3, then the step's own.
@@ -297,7 +208,7 @@ impl Host {
         ensures { λ r. ⌜ r ≡ firstOr (aliveRows self room) rest ⌝ }
     {
         let t = self.thread;
-        self.ready_rows(room, row(state::threads::is_ended(t), 3, rest))
+        self.ready_rows(room, tables::row(state::threads::is_ended(t), 3, rest))
     }
 
     // Rows 1 to 4, then the step's own.
@@ -305,7 +216,7 @@ impl Host {
         ensures { λ r. ⌜ r ≡ firstOr (entryRows self room) rest ⌝ }
     {
         let t = self.thread;
-        self.alive_rows(room, row(state::threads::is_waiting(t), 4, rest))
+        self.alive_rows(room, tables::row(state::threads::is_waiting(t), 4, rest))
     }
 
     // Rows 1 to 5, then the step's own.
@@ -313,6 +224,9 @@ impl Host {
         ensures { λ r. ⌜ r ≡ firstOr (callRows self room k) rest ⌝ }
     {
         let sockets = self.sockets;
-        self.entry_rows(room, row(!state::sockets::is_open(sockets, k), 5, rest))
+        self.entry_rows(
+            room,
+            tables::row(!state::sockets::is_open(sockets, k), 5, rest),
+        )
     }
 }

@@ -1,41 +1,14 @@
 // socket, bind, connect, disconnect, getsockname, getpeername.
 use crate::Host;
 use crate::Stepped;
+use answers::tables;
 use net::Descriptor;
 use net::Port;
 ghost use mathlib.Core.Path.{_≡_};
-ghost use mathlib.Core.List.{[], _∷_};
-ghost use mathlib.Core.Bool.{_&&_, not};
-ghost use lib.Dec.{ltb, eqb};
+ghost use mathlib.Core.List.{[]};
 ghost use Rattle.host.specs.Answers.{outcome};
-ghost use Rattle.host.specs.Tables.{first};
+ghost use Rattle.answers.specs.Tables.{first};
 ghost use Rattle.host.specs.Naming.{socketed, bindRows, bound, connected, disconnected, localGiven, peerGiven};
-
-// bind's own rows: 6, 8, 7, 9. Port 0 is never 7 or 9.
-fn bind_rows(named: bool, strange: bool, p: Port, used: bool) -> u8
-    ensures { λ r. ⌜ r ≡ first ((named, 6) ∷ (strange, 8) ∷ (not (eqb (p .0) 0) && ltb (p .0) 1024, 7) ∷ (not (eqb (p .0) 0) && used, 9) ∷ []) ⌝ }
-{
-    crate::row(
-        named,
-        6,
-        crate::row(
-            strange,
-            8,
-            crate::row(
-                (p.0 != 0) & (p.0 < 1024),
-                7,
-                crate::row((p.0 != 0) & used, 9, 0),
-            ),
-        ),
-    )
-}
-
-// connect's: 6, 13.
-fn connect_rows(address: u32, source: u32) -> u8
-    ensures { λ r. ⌜ r ≡ first ((eqb address 0, 6) ∷ (eqb source 0, 13) ∷ []) ⌝ }
-{
-    crate::row(address == 0, 6, crate::row(source == 0, 13, 0))
-}
 
 impl Host {
     // The lowest closed descriptor; 15 where there is none.
@@ -44,13 +17,13 @@ impl Host {
     {
         let sockets = self.sockets;
         let k = binding::lowest_closed(sockets);
-        let n = self.entry_rows(store.len(), crate::row(k == 16, 15, 0));
+        let n = self.entry_rows(store.len(), tables::row(k == 16, 15, 0));
         if n != 0 {
             return self.refused(n);
         }
         Stepped {
             host: self.with_socket(k, binding::new_socket()),
-            answer: crate::with_descriptor(0, k as u8),
+            answer: answers::with_descriptor(0, k as u8),
         }
     }
 
@@ -63,7 +36,7 @@ impl Host {
         let s = crate::socket_at(sockets, k);
         let ours = state::interfaces::is_ours(interfaces, address);
         let used = matching::ports::is_in_use(sockets, k, s.reuse, address, port);
-        bind_rows(s.lport.0 != 0, (address != 0) & !ours, port, used)
+        tables::bind_rows(s.lport.0 != 0, (address != 0) & !ours, port, used)
     }
 
     pub fn bind(self, store: &[u8], d: Descriptor, address: u32, port: Port) -> Stepped
@@ -80,7 +53,7 @@ impl Host {
         let p = binding::port_for(sockets, port);
         Stepped {
             host: self.with_socket(k, binding::with_local(s, address, p)),
-            answer: crate::numbered(0),
+            answer: answers::numbered(0),
         }
     }
 
@@ -91,7 +64,7 @@ impl Host {
         let sockets = self.sockets;
         let s = crate::socket_at(sockets, k);
         let source = self.source_for(s, address);
-        let own = connect_rows(address, source);
+        let own = tables::connect_rows(address, source);
         let n = self.call_rows(store.len(), k, own);
         if n != 0 {
             return self.refused(n);
@@ -101,7 +74,7 @@ impl Host {
         let t = binding::with_local(s, source, p);
         Stepped {
             host: self.with_socket(k, binding::with_remote(t, address, port)),
-            answer: crate::numbered(0),
+            answer: answers::numbered(0),
         }
     }
 
@@ -118,7 +91,7 @@ impl Host {
         let s = crate::socket_at(sockets, k);
         Stepped {
             host: self.with_socket(k, binding::with_remote(s, 0, Port(0))),
-            answer: crate::numbered(0),
+            answer: answers::numbered(0),
         }
     }
 
@@ -135,7 +108,7 @@ impl Host {
         let port = s.lport;
         Stepped {
             host: self,
-            answer: crate::with_pair(s.laddr, port),
+            answer: answers::with_pair(s.laddr, port),
         }
     }
 
@@ -146,14 +119,14 @@ impl Host {
         let k = d.0 as usize;
         let sockets = self.sockets;
         let s = crate::socket_at(sockets, k);
-        let n = self.call_rows(store.len(), k, crate::row(s.raddr == 0, 12, 0));
+        let n = self.call_rows(store.len(), k, tables::row(s.raddr == 0, 12, 0));
         if n != 0 {
             return self.refused(n);
         }
         let port = s.rport;
         Stepped {
             host: self,
-            answer: crate::with_pair(s.raddr, port),
+            answer: answers::with_pair(s.raddr, port),
         }
     }
 }

@@ -1,33 +1,15 @@
 // Opening over an array of interface records with a count.
 use crate::Host;
 use crate::Stepped;
-use net::InterfaceId;
+use answers::tables;
 use outqueue::OutQueue;
 use queues::Queues;
 use state::Interface;
 use state::Thread;
 ghost use mathlib.Core.Path.{_≡_};
-ghost use mathlib.Core.List.{[], _∷_};
-ghost use mathlib.Core.Bool.{not};
-ghost use lib.Dec.{eqb};
-ghost use Rattle.laws.specs.Places.{copies};
-ghost use Rattle.state.specs.Places.{noInterface};
+ghost use mathlib.Core.List.{[]};
 ghost use Rattle.host.specs.Answers.{outcome};
-ghost use Rattle.host.specs.Tables.{first};
 ghost use Rattle.host.specs.Opening.{emptyHost, endedHost, opened};
-
-fn no_interface() -> Interface
-    ensures { λ r. ⌜ r ≡ noInterface ⌝ }
-{
-    Interface {
-        mask: 0,
-        first: 0,
-        second: 0,
-        third: 0,
-        fourth: 0,
-        id: InterfaceId(0),
-    }
-}
 
 // A host with these interfaces, no socket open and nothing queued.
 fn empty_host(interfaces: [Interface; 4], n: u8, t: Thread) -> Host
@@ -49,14 +31,7 @@ fn empty_host(interfaces: [Interface; 4], n: u8, t: Thread) -> Host
 fn ended_host() -> Host
     ensures { λ r. ⌜ r ≡ endedHost ⌝ }
 {
-    empty_host([no_interface(); 4], 0, Thread::Ended)
-}
-
-// 2, then 17.
-fn opening_rows(room: usize, accepted: bool) -> u8
-    ensures { λ r. ⌜ r ≡ first ((not (eqb room 40960), 2) ∷ (not accepted, 17) ∷ []) ⌝ }
-{
-    crate::row(room != 40960, 2, crate::row(!accepted, 17, 0))
+    empty_host([state::interfaces::no_interface(); 4], 0, Thread::Ended)
 }
 
 impl Host {
@@ -64,17 +39,17 @@ impl Host {
         ensures { λ r. ⌜ outcome r (now (store .exit)) [] ≡ opened interfaces count (now (store .entry)) ⌝ }
     {
         let accepted = state::interfaces::are_accepted(interfaces, count as usize);
-        let n = opening_rows(store.len(), accepted);
+        let n = tables::opening_rows(store.len(), accepted);
         if n != 0 {
             return Stepped {
                 host: ended_host(),
-                answer: crate::numbered(n),
+                answer: answers::numbered(n),
             };
         }
         store::clear(store, 0, 40960);
         Stepped {
             host: empty_host(interfaces, count, Thread::Running),
-            answer: crate::numbered(0),
+            answer: answers::numbered(0),
         }
     }
 }

@@ -1,22 +1,15 @@
 // geterr, getopt, setopt.
 use crate::Host;
 use crate::Stepped;
+use answers::tables;
 use net::Descriptor;
 use state::Socket;
 ghost use mathlib.Core.Path.{_≡_};
-ghost use mathlib.Core.List.{[], _∷_};
-ghost use mathlib.Core.Bool.{_&&_, not, cond};
-ghost use lib.Dec.{eqb};
+ghost use mathlib.Core.List.{[]};
+ghost use mathlib.Core.Bool.{cond};
 ghost use Rattle.host.specs.Answers.{outcome};
-ghost use Rattle.host.specs.Tables.{first};
-ghost use Rattle.host.specs.Options.{errorGiven, unknownOption, optionOf, optionGiven, withOption, optionSet};
-
-// 1 is bsdcompat, 2 is reuse.
-fn is_unknown(option: u8) -> bool
-    ensures { λ r. ⌜ r ≡ unknownOption option ⌝ }
-{
-    !((option == 1) | (option == 2))
-}
+ghost use Rattle.answers.specs.Tables.{first};
+ghost use Rattle.host.specs.Options.{errorGiven, optionOf, optionGiven, withOption, optionSet};
 
 fn chosen(first: bool, a: bool, b: bool) -> bool
     ensures { λ r. ⌜ r ≡ cond first a b ⌝ }
@@ -27,7 +20,7 @@ fn chosen(first: bool, a: bool, b: bool) -> bool
 fn option_value(s: Socket, option: u8) -> u8
     ensures { λ r. ⌜ r ≡ optionOf s option ⌝ }
 {
-    crate::row(chosen(option == 1, s.bsdcompat, s.reuse), 1, 0)
+    tables::row(chosen(option == 1, s.bsdcompat, s.reuse), 1, 0)
 }
 
 fn with_option(s: Socket, option: u8, on: bool) -> Socket
@@ -37,17 +30,6 @@ fn with_option(s: Socket, option: u8, on: bool) -> Socket
         s,
         chosen(option == 1, on, s.bsdcompat),
         chosen(option == 1, s.reuse, on),
-    )
-}
-
-// setopt's own rows: an unknown option, and reuse once there is a local port.
-fn set_rows(s: Socket, option: u8) -> u8
-    ensures { λ r. ⌜ r ≡ first ((unknownOption option, 6) ∷ (eqb option 2 && not (eqb (s .lport .0) 0), 6) ∷ []) ⌝ }
-{
-    crate::row(
-        is_unknown(option),
-        6,
-        crate::row((option == 2) & (s.lport.0 != 0), 6, 0),
     )
 }
 
@@ -65,7 +47,7 @@ impl Host {
         let s = crate::socket_at(sockets, k);
         Stepped {
             host: self.without_error(k),
-            answer: crate::with_value(s.error),
+            answer: answers::with_value(s.error),
         }
     }
 
@@ -73,7 +55,7 @@ impl Host {
         ensures { λ r. ⌜ outcome r (now (store .entry)) [] ≡ optionGiven self (now (store .entry)) (d .0) option ⌝ }
     {
         let k = d.0 as usize;
-        let own = crate::row(is_unknown(option), 6, 0);
+        let own = tables::row(tables::is_unknown(option), 6, 0);
         let n = self.call_rows(store.len(), k, own);
         if n != 0 {
             return self.refused(n);
@@ -82,7 +64,7 @@ impl Host {
         let s = crate::socket_at(sockets, k);
         Stepped {
             host: self,
-            answer: crate::with_value(option_value(s, option)),
+            answer: answers::with_value(option_value(s, option)),
         }
     }
 
@@ -92,14 +74,14 @@ impl Host {
         let k = d.0 as usize;
         let sockets = self.sockets;
         let s = crate::socket_at(sockets, k);
-        let own = set_rows(s, option);
+        let own = tables::set_rows(s, option);
         let n = self.call_rows(store.len(), k, own);
         if n != 0 {
             return self.refused(n);
         }
         Stepped {
             host: self.with_socket(k, with_option(s, option, on)),
-            answer: crate::numbered(0),
+            answer: answers::numbered(0),
         }
     }
 }

@@ -1,14 +1,14 @@
 // poll.
-use crate::Answer;
 use crate::Host;
 use crate::Stepped;
+use answers::tables;
 use state::Socket;
 ghost use mathlib.Core.Path.{_≡_};
 ghost use mathlib.Core.List.{[]};
 ghost use mathlib.Core.Bool.{cond, _&&_, _||_, not};
 ghost use Prim.Native.Nat.{_<_, _^_};
 ghost use lib.Dec.{eqb};
-ghost use Rattle.host.specs.Answers.{outcome, polled};
+ghost use Rattle.host.specs.Answers.{outcome};
 ghost use Rattle.host.specs.Polling.{bit, allOpen, readyBy, writableAt, readyBelow, pollRefusal, polledOf};
 
 // ---- bits of a mask
@@ -69,15 +69,6 @@ fn ready_bits(sockets: [Socket; 16], marks: [u8; 16], mask: u16) -> u16
     bits
 }
 
-fn with_masks(readable: u16, writable: u16) -> Answer
-    ensures { λ r. ⌜ r ≡ polled readable writable ⌝ }
-{
-    let mut a = crate::numbered(0);
-    a.readable = readable;
-    a.writable = writable;
-    a
-}
-
 impl Host {
     // Rows 1 to 4, and 5 if a bit names a closed descriptor.
     fn poll_rows(self, room: usize, readers: u16, writers: u16) -> u8
@@ -85,14 +76,14 @@ impl Host {
     {
         let sockets = self.sockets;
         let open = are_open(sockets, readers) & are_open(sockets, writers);
-        self.entry_rows(room, crate::row(!open, 5, 0))
+        self.entry_rows(room, tables::row(!open, 5, 0))
     }
 
     fn writable_bits(self, mask: u16) -> u16
         ensures { λ r. ⌜ r ≡ readyBelow mask (writableAt self) 16 ⌝ }
     {
         let sockets = self.sockets;
-        let mark = crate::row(self.out.count < 16, 1, 0);
+        let mark = tables::row(self.out.count < 16, 1, 0);
         ready_bits(sockets, [mark; 16], mask)
     }
 
@@ -110,7 +101,7 @@ impl Host {
         let writable = self.writable_bits(writers);
         Stepped {
             host: self,
-            answer: with_masks(readable, writable),
+            answer: answers::with_masks(readable, writable),
         }
     }
 }

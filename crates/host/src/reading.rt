@@ -1,6 +1,7 @@
 // recvfrom, resume, interrupt.
 use crate::Host;
 use crate::Stepped;
+use answers::tables;
 use net::Descriptor;
 use state::Thread;
 ghost use mathlib.Core.Path.{_≡_};
@@ -34,14 +35,14 @@ impl Host {
         if buffer.len() < len as usize {
             return Stepped {
                 host: self,
-                answer: crate::with_need(len),
+                answer: answers::with_need(len),
             };
         }
         let rest = q.take(store, k, buffer);
         let g = self.with_queues(rest);
         Stepped {
             host: g.with_thread(t),
-            answer: crate::from_sender(h),
+            answer: answers::from_sender(h),
         }
     }
 
@@ -82,7 +83,7 @@ impl Host {
         }
         Stepped {
             host: self.wait_on(d.0),
-            answer: crate::numbered(18),
+            answer: answers::numbered(18),
         }
     }
 
@@ -91,7 +92,7 @@ impl Host {
         ensures { λ r. ⌜ r ≡ resumeRefusal self room ⌝ }
     {
         let t = self.thread;
-        self.alive_rows(room, crate::row(!state::threads::is_waiting(t), 6, 0))
+        self.alive_rows(room, tables::row(!state::threads::is_waiting(t), 6, 0))
     }
 
     // The wait on socket k.
@@ -133,7 +134,7 @@ impl Host {
         }
         Stepped {
             host: self.with_thread(Thread::Running),
-            answer: crate::numbered(0),
+            answer: answers::numbered(0),
         }
     }
 }

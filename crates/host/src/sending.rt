@@ -1,17 +1,16 @@
 // sendto.
 use crate::Host;
 use crate::Stepped;
+use answers::tables;
 use net::Descriptor;
 use net::Flow;
 use net::Port;
 use state::Socket;
 ghost use mathlib.Core.Path.{_≡_};
-ghost use mathlib.Core.List.{[], _∷_};
-ghost use mathlib.Core.Bool.{_&&_, _||_};
-ghost use lib.Dec.{ltb, eqb};
+ghost use mathlib.Core.List.{[]};
 ghost use lib.ListN.{length};
 ghost use Rattle.host.specs.Answers.{outcome};
-ghost use Rattle.host.specs.Tables.{first};
+ghost use Rattle.answers.specs.Tables.{first};
 ghost use Rattle.host.specs.Entered.{Ready};
 ghost use Rattle.host.specs.Sending.{halfGiven, bothAbsent, target, targetPort, sendRows, flowOf, queuedOut, sent};
 
@@ -45,24 +44,6 @@ fn target_port(s: Socket, a: u32, p: Port) -> Port
 
 // ---- its own rows: 6, 11, 12, 13, 14
 
-fn send_rows(half: bool, len: usize, nobody: bool, source: u32, count: u8) -> u8
-    ensures { λ r. ⌜ r ≡ first ((half, 6) ∷ (ltb 512 len, 11) ∷ (nobody, 12) ∷ (eqb source 0, 13) ∷ (eqb count 16, 14) ∷ []) ⌝ }
-{
-    crate::row(
-        half,
-        6,
-        crate::row(
-            512 < len,
-            11,
-            crate::row(
-                nobody,
-                12,
-                crate::row(source == 0, 13, crate::row(count == 16, 14, 0)),
-            ),
-        ),
-    )
-}
-
 impl Host {
     fn send_refusal(self, k: usize, address: u32, port: Port, len: usize) -> u8
         ensures { λ r. ⌜ r ≡ first (sendRows self k address port len) ⌝ }
@@ -70,7 +51,7 @@ impl Host {
         let sockets = self.sockets;
         let s = crate::socket_at(sockets, k);
         let source = self.source_for(s, target_address(s, address, port));
-        send_rows(
+        tables::send_rows(
             is_half_given(address, port),
             len,
             is_both_absent(address, port) & ((s.raddr == 0) | (s.rport.0 == 0)),
@@ -119,7 +100,7 @@ impl Host {
         let h = self.autobound(k);
         Stepped {
             host: h.with_out(longer),
-            answer: crate::numbered(0),
+            answer: answers::numbered(0),
         }
     }
 

@@ -2,13 +2,17 @@
 ghost use mathlib.Core.Path.{_≡_};
 ghost use Rattle.net.specs.Address.{noFlow, loopback, martian, stray, agree};
 
+#[repr(C)]
 pub struct Port(pub u16);
 
+#[repr(C)]
 pub struct Descriptor(pub u8);
 
+#[repr(C)]
 pub struct InterfaceId(pub u8);
 
 // Where a datagram comes from and where it goes.
+#[repr(C)]
 pub struct Flow {
     pub src: u32,
     pub dst: u32,

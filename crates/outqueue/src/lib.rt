@@ -4,7 +4,6 @@ use state::Interface;
 use state::OutItem;
 ghost use mathlib.Core.Path.{_≡_};
 ghost use mathlib.Core.List.{[]};
-ghost use mathlib.Core.Bool.{cond};
 ghost use Prim.Native.Nat.{_-_, _≤_, _<_};
 ghost use lib.ListN.{length};
 ghost use Rattle.laws.specs.Places.{popped};
@@ -13,6 +12,7 @@ ghost use Rattle.outqueue.specs.Moves.{sourceOf, destinationOf, datagram
 ghost use Rattle.outqueue.specs.Fits.{emptyItem, itemOkOf, itemFits, outOk};
 
 // Item i is the i-th oldest; its payload is the slot of 512 bytes at byte 32,768 + 512 * i.
+#[repr(C)]
 pub struct OutQueue {
     pub items: [OutItem; 16],
     pub count: u8,

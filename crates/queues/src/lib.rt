@@ -12,6 +12,7 @@ ghost use Rattle.queues.specs.Moves.{countAt, firstHead, noQueues, withH
 ghost use Rattle.queues.specs.Fits.{emptyHead, headFits, queueFits, queuesOk};
 
 // Socket k's queue is the heads from 4 * k, oldest first, and the four slots of 512 bytes from byte 2,048 * k.
+#[repr(C)]
 pub struct Queues {
     pub heads: [Queued; 64],
     pub counts: [u8; 16],

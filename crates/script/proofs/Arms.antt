@@ -10,7 +10,7 @@ use lib.Dec.{eqb, leb}
 use borrow.Author.Tests.{eq-eqb, ne-eqb, lt-leb}
 use Rattle.laws.proofs.Numbers.{side, below}
 use Rattle.host.specs.declared.Host.{Host}
-use Rattle.host.specs.Answers.{plain}
+use Rattle.answers.specs.Answers.{plain}
 use Rattle.script.specs.declared.Fields.{Fields}
 use Rattle.script.specs.Steps.{known, Making, makingOf, making}
 

@@ -7,11 +7,13 @@ use Rattle.history.proofs.OneResult.{Fixed}
 use Rattle.script.specs.declared.Fields.{Fields}
 use Rattle.script.specs.Lines.{Wrote}
 use Rattle.script.specs.Steps.{Making, made}
+use Rattle.script.specs.Whole.{Ran, ran}
 use Rattle.script.proofs.fields_at.Reads as fields-at
 use Rattle.script.proofs.make.Reads as make
 use Rattle.script.proofs.lines.put_line.Reads as put-line
 use Rattle.script.proofs.lines.put_text.Reads as put-text
 use Rattle.script.proofs.lines.put_closing.Reads as put-closing
+use Rattle.script.proofs.whole.run.Reads as run
 
 -- where a text ends, and the slice that it was put into
 pub record Put : Type 0 where
@@ -24,6 +26,7 @@ pub record OneResult : Type 0 where
   pub put-line-once : Fixed {W = Put} put-line.Post (λ k a r e. record { end = r; text = e .0 .now })
   pub put-text-once : Fixed {W = Put} put-text.Post (λ k a r e. record { end = r; text = e .0 .now })
   pub put-closing-once : Fixed {W = Put} put-closing.Post (λ k a r e. record { end = r; text = e .0 .now })
+  pub run-once : Fixed {W = Ran} run.Post (λ k a r e. ran r (e .1 .0 .now))
 
 -- ---- its proof
 
@@ -42,4 +45,5 @@ one-result =
       put-line-once = record { fixed = λ k a r r' e e' p q. same-put p q };
       put-text-once = record { fixed = λ k a r r' e e' p q. same-put p q };
       put-closing-once = record { fixed = λ k a r r' e e' p q. same-put p q };
+      run-once = record { fixed = λ k a r r' e e' p q. p .0 ∙ sym (q .0) };
     }

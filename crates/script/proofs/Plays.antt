@@ -14,7 +14,7 @@ use Rattle.laws.proofs.Numbers.{side}
 use Rattle.laws.proofs.Tests.{two, not-both, cond-cases, and-left, and-right, and-both}
 use Rattle.laws.specs.Places.{splice}
 use Rattle.host.specs.declared.Host.{Host}
-use Rattle.host.specs.declared.Answer.{Answer}
+use Rattle.answers.specs.declared.Answer.{Answer}
 use Rattle.script.specs.declared.Play.{Play}
 use Rattle.script.specs.Fields.{fieldsAt}
 use Rattle.script.specs.Steps.{Making, making}

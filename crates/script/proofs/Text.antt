@@ -11,7 +11,7 @@ use Rattle.laws.proofs.Tests.{cond-cases}
 use lib.Seq.{sets-eq}
 use Rattle.laws.specs.Places.{splice}
 use Rattle.laws.proofs.Splice.{splice-then, length-splice}
-use Rattle.host.specs.declared.Answer.{Answer}
+use Rattle.answers.specs.declared.Answer.{Answer}
 use Rattle.script.specs.Lines.{Wrote, decimal, column, givesDescriptor, givesLength, lineLength, given, line}
 
 -- one byte

@@ -6,7 +6,7 @@ use Prim.Native.Nat.{ℕ, zero, suc, _+_, _/_, _%_}
 use lib.Dec.{eqb, ltb}
 use lib.ListN.{length}
 use Rattle.laws.specs.Places.{splice}
-use Rattle.host.specs.declared.Answer.{Answer}
+use Rattle.answers.specs.declared.Answer.{Answer}
 
 -- xs was put into s from index at, which left t, and r is the index behind it
 pub record Wrote (s : List ℕ) (at : ℕ) (xs t : List ℕ) (r : ℕ) : Type 0 where

@@ -3,9 +3,10 @@ use Prim.Native.Nat.{ℕ}
 use mathlib.Core.List.{List}
 use mathlib.Core.Bool.{Bool, true, false, _&&_, _||_, not, cond}
 use lib.Dec.{eqb, leb}
-use Rattle.host.specs.declared.Answer.{Answer}
+use Rattle.answers.specs.declared.Answer.{Answer}
 use Rattle.host.specs.declared.Host.{Host}
-use Rattle.host.specs.Answers.{Outcome, plain}
+use Rattle.answers.specs.Answers.{plain}
+use Rattle.host.specs.Answers.{Outcome}
 use Rattle.history.specs.Steps.{Step, after, socket, bind, connect, disconnect, sendto, recvfrom, close, setopt, datagram, notice, outstep, exit}
 use Rattle.script.specs.declared.Fields.{Fields}
 use Rattle.script.specs.declared.Made.{Made}

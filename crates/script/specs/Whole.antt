@@ -6,6 +6,8 @@ use lib.Dec.{eqb, ltb, leb}
 use lib.ListN.{length, getD}
 use Rattle.state.specs.declared.Interface.{Interface}
 use Rattle.state.specs.Places.{noInterface}
+use Rattle.laws.specs.Places.{splice}
+use Rattle.store.specs.Store.{zeros}
 use Rattle.host.specs.Opening.{opened}
 use Rattle.script.specs.Fields.{word, long}
 use Rattle.script.specs.Lines.{closing}
@@ -40,9 +42,26 @@ abbrev pub finished : ℕ → State → List ℕ
 finished len q = q .text ++ cond (leftOver len (q .ended)) (closing (stepsIn len + 1) shortWord) []
 
 -- all that a script prints, where s is the lent store and b the lent buffer
-unfoldable pub output : List ℕ → List ℕ → List ℕ → List ℕ
-output input s b =
+unfoldable pub outputFrom : List ℕ → List ℕ → List ℕ → List ℕ
+outputFrom input s b =
     cond (headed input)
     (cond (eqb (opened (interfacesIn input) 1 s .answer .number) 0)
     (finished (length input) (played input (starting (opened (interfacesIn input) 1 s .host) (opened (interfacesIn input) 1 s .bytes) b) (stepsIn (length input)))) badInterface)
     badHeader
+
+-- a store of 40,960 bytes and a buffer of 512, all zero
+abbrev pub output : List ℕ → List ℕ
+output input = outputFrom input (zeros 40960) (zeros 512)
+
+-- ---- in memory: where the text ends, and the slice that it was put into
+
+pub record Ran : Type 0 where
+  pub end : ℕ
+  pub text : List ℕ
+
+abbrev pub ran : ℕ → List ℕ → Ran
+ran r t = record { end = r; text = t }
+
+-- too short for the longest output: the length needed, and nothing written
+unfoldable pub running : List ℕ → List ℕ → Ran
+running input out = cond (ltb (length out) 1440032) (ran 1440032 out) (ran (length (output input)) (splice out 0 (output input)))

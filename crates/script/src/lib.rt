@@ -1,17 +1,15 @@
 // What a script's bytes mean (document 01, "The script program"): fields of a step, and the host call that its kind chooses.
-use host::Answer;
+use answers::Answer;
 use host::Host;
 use host::Stepped;
 use net::Descriptor;
 use net::Flow;
 use net::Port;
-use state::OutItem;
 ghost use mathlib.Core.Path.{_≡_};
 ghost use Prim.Native.Nat.{_+_, _≤_};
 ghost use lib.ListN.{length};
 ghost use Rattle.script.specs.Fields.{word, long, fieldsAt, flowIn};
 ghost use mathlib.Core.Bool.{true};
-ghost use Rattle.host.specs.Answers.{plain};
 ghost use Rattle.script.specs.Steps.{made, making};
 
 pub mod lines;
@@ -61,7 +59,7 @@ fn long_at(s: &[u8], i: usize) -> u32
 }
 
 // The step at byte i.
-pub fn fields_at(s: &[u8], i: usize) -> Fields
+pub(crate) fn fields_at(s: &[u8], i: usize) -> Fields
     requires { ⌜ i + 16 ≤ length (now s) ⌝ }
     ensures { λ r. ⌜ r ≡ fieldsAt (now (s .entry)) i ⌝ }
 {
@@ -79,27 +77,6 @@ pub fn fields_at(s: &[u8], i: usize) -> Fields
 }
 
 // ---- the call that the kind chooses
-
-// No number and nothing else.
-fn no_answer() -> Answer
-    ensures { λ r. ⌜ r ≡ plain 0 ⌝ }
-{
-    Answer {
-        item: OutItem {
-            flow: net::no_flow(),
-            len: 0,
-            kind: 0,
-        },
-        address: 0,
-        port: Port(0),
-        len: 0,
-        readable: 0,
-        writable: 0,
-        number: 0,
-        descriptor: Descriptor(0),
-        value: 0,
-    }
-}
 
 fn done(r: Stepped) -> Made
     ensures { λ m. ⌜ m ≡ record { host = r .host; answer = r .answer; known = true } ⌝ }
@@ -128,7 +105,7 @@ fn flow_in(f: Fields) -> Flow
 }
 
 // The step f; the payload is what it sends or what arrives, the buffer is lent to recvfrom and out.
-pub fn make(h: Host, store: &mut [u8], f: Fields, payload: &[u8], buffer: &mut [u8]) -> Made
+pub(crate) fn make(h: Host, store: &mut [u8], f: Fields, payload: &[u8], buffer: &mut [u8]) -> Made
     ensures { λ r. ⌜ made r (now (store .exit)) (now (buffer .exit)) ≡ making h (now (store .entry)) f (now (payload .entry)) (now (buffer .entry)) ⌝ }
 {
     let kind = f.kind;
@@ -149,7 +126,7 @@ pub fn make(h: Host, store: &mut [u8], f: Fields, payload: &[u8], buffer: &mut [
         12 => done(h.exit(store)),
         _ => Made {
             host: h,
-            answer: no_answer(),
+            answer: answers::numbered(0),
             known: false,
         },
     }

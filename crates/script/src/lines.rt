@@ -1,5 +1,5 @@
 // What is printed: text put into a slice, behind what stands there.
-use host::Answer;
+use answers::Answer;
 ghost use mathlib.Core.Path.{_≡_};
 ghost use mathlib.Core.List.{[], _∷_};
 ghost use Prim.Native.Nat.{_+_, _≤_, _<_};
@@ -116,7 +116,7 @@ fn put_given(out: &mut [u8], at: usize, kind: u8, a: Answer) -> usize
 }
 
 // The line of step n.
-pub fn put_line(out: &mut [u8], at: usize, n: u32, kind: u8, a: Answer) -> usize
+pub(crate) fn put_line(out: &mut [u8], at: usize, n: u32, kind: u8, a: Answer) -> usize
     requires { ⌜ (at + 24 ≤ length (now out)) × (n < 100000) ⌝ }
     ensures { λ r. ⌜ Wrote (now (out .entry)) at (line n kind a) (now (out .exit)) r ⌝ }
 {
@@ -126,7 +126,7 @@ pub fn put_line(out: &mut [u8], at: usize, n: u32, kind: u8, a: Answer) -> usize
 }
 
 // All of a text.
-pub fn put_text(out: &mut [u8], at: usize, text: &[u8]) -> usize
+pub(crate) fn put_text(out: &mut [u8], at: usize, text: &[u8]) -> usize
     requires { ⌜ at + length (now text) ≤ length (now out) ⌝ }
     ensures { λ r. ⌜ Wrote (now (out .entry)) at (now (text .entry)) (now (out .exit)) r ⌝ }
 {
@@ -139,7 +139,7 @@ pub fn put_text(out: &mut [u8], at: usize, text: &[u8]) -> usize
 }
 
 // Step n and the words that end a script there.
-pub fn put_closing(out: &mut [u8], at: usize, n: u32, words: &[u8]) -> usize
+pub(crate) fn put_closing(out: &mut [u8], at: usize, n: u32, words: &[u8]) -> usize
     requires { ⌜ (at + 5 + length (now words) ≤ length (now out)) × (n < 100000) ⌝ }
     ensures { λ r. ⌜ Wrote (now (out .entry)) at (closing n (now (words .entry))) (now (out .exit)) r ⌝ }
 {

@@ -56,7 +56,7 @@ fn advance(
 }
 
 // The m steps, up to one that ends the script.
-pub fn play(
+pub(crate) fn play(
     start: Play,
     m: u32,
     input: &[u8],

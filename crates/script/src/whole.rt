@@ -8,8 +8,9 @@ use state::Interface;
 ghost use mathlib.Core.Path.{_≡_};
 ghost use Prim.Native.Nat.{_+_, _≤_};
 ghost use lib.ListN.{length};
+ghost use Rattle.store.specs.Store.{zeros};
 ghost use Rattle.script.specs.Lines.{Wrote};
-ghost use Rattle.script.specs.Whole.{headed, interfacesIn, stepsIn, leftOver, output};
+ghost use Rattle.script.specs.Whole.{headed, interfacesIn, stepsIn, leftOver, outputFrom, ran, running};
 
 fn is_headed(input: &[u8]) -> bool
     ensures { λ r. ⌜ r ≡ headed (now (input .entry)) ⌝ }
@@ -33,14 +34,7 @@ fn interfaces_in(input: &[u8]) -> [Interface; 4]
         fourth: 0,
         id: InterfaceId(1),
     };
-    let none = Interface {
-        mask: 0,
-        first: 0,
-        second: 0,
-        third: 0,
-        fourth: 0,
-        id: InterfaceId(0),
-    };
+    let none = state::interfaces::no_interface();
     [x, none, none, none]
 }
 
@@ -61,7 +55,7 @@ fn is_left_over(len: usize, ended: bool) -> bool
 }
 
 // All that the script prints goes to the start of out, and is as long as the result says.
-pub fn run(
+fn print(
     input: &[u8],
     out: &mut [u8],
     store: &mut [u8],
@@ -69,7 +63,7 @@ pub fn run(
     buffer: &mut [u8],
 ) -> usize
     requires { ⌜ (1440032 ≤ length (now out)) × (65535 ≤ length (now work)) ⌝ }
-    ensures { λ r. ⌜ Wrote (now (out .entry)) 0 (output (now (input .entry)) (now (store .entry)) (now (buffer .entry))) (now (out .exit)) r × (r ≤ 1440032) ⌝ }
+    ensures { λ r. ⌜ Wrote (now (out .entry)) 0 (outputFrom (now (input .entry)) (now (store .entry)) (now (buffer .entry))) (now (out .exit)) r × (r ≤ 1440032) ⌝ }
 {
     if !is_headed(input) {
         return lines::put_text(out, 0, b"bad header\n");
@@ -91,4 +85,40 @@ pub fn run(
         return lines::put_closing(out, p.at, m + 1, b" short\n");
     }
     p.at
+}
+
+// ---- what a run lends to its host
+
+fn store_space() -> [u8; 40960]
+    ensures { λ r. ⌜ r ≡ zeros 40960 ⌝ }
+{
+    [0u8; 40960]
+}
+
+fn buffer_space() -> [u8; 512]
+    ensures { λ r. ⌜ r ≡ zeros 512 ⌝ }
+{
+    [0u8; 512]
+}
+
+// Room for the longest payload.
+fn work_space() -> [u8; 65535]
+    ensures { λ r. ⌜ length r ≡ 65535 ⌝ }
+{
+    [0u8; 65535]
+}
+
+// All that a script prints goes to the start of out, and is as long as the result says. Where out has not the 1,440,032
+// bytes that the longest output takes, nothing is written and the result is that number.
+pub fn run(input: &[u8], out: &mut [u8]) -> usize
+    ensures { λ r. ⌜ ran r (now (out .exit)) ≡ running (now (input .entry)) (now (out .entry)) ⌝ }
+    ensures { λ r. ⌜ r ≤ 1440032 ⌝ }
+{
+    if out.len() < 1440032 {
+        return 1440032;
+    }
+    let mut store = store_space();
+    let mut work = work_space();
+    let mut buffer = buffer_space();
+    print(input, out, &mut store, &mut work, &mut buffer)
 }

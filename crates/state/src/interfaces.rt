@@ -3,9 +3,24 @@ use crate::Interface;
 use net::InterfaceId;
 ghost use mathlib.Core.Path.{_≡_};
 ghost use mathlib.Core.Bool.{_&&_};
+ghost use Rattle.state.specs.Places.{noInterface};
 ghost use Rattle.state.specs.Interfaces.{idKnown, addressed, member, inOneNet, distinctWithin, acceptable, usable, interfaceOk, blank, fits, holds, lacks, pairApart, apartIf, openingOk, ownOf, oursOf, own, ours, holderId};
 
 // ---- one interface
+
+// What stands in an unused place.
+pub fn no_interface() -> Interface
+    ensures { λ r. ⌜ r ≡ noInterface ⌝ }
+{
+    Interface {
+        mask: 0,
+        first: 0,
+        second: 0,
+        third: 0,
+        fourth: 0,
+        id: InterfaceId(0),
+    }
+}
 
 fn id_known(x: Interface) -> bool
     ensures { λ r. ⌜ r ≡ idKnown x ⌝ }

@@ -9,6 +9,7 @@ pub mod sockets;
 pub mod threads;
 
 // An interface: an address that is 0 is absent, and the first is the primary one (000, 2.1.3).
+#[repr(C)]
 pub struct Interface {
     pub mask: u32,
     pub first: u32,
@@ -19,6 +20,7 @@ pub struct Interface {
 }
 
 // A socket (000, 2.1.4): 0 is absent or wildcard. Its queue stands in the crate queues.
+#[repr(C)]
 pub struct Socket {
     pub laddr: u32,
     pub raddr: u32,
@@ -31,6 +33,7 @@ pub struct Socket {
 }
 
 // The head of a queued datagram; its bytes are in the store.
+#[repr(C)]
 pub struct Queued {
     pub flow: Flow,
     pub len: u16,
@@ -39,6 +42,7 @@ pub struct Queued {
 
 // An item of the out-queue. Kind 0 is a datagram, 1 a PORT notice, 2 a HOST notice.
 // A notice goes back along the flow that it embeds, so one flow serves both.
+#[repr(C)]
 pub struct OutItem {
     pub flow: Flow,
     pub len: u16,

@@ -1,6 +1,6 @@
 -- `script::make` meets its contract.
 -- Assumes nothing.
-use mathlib.Core.Path.{_≡_, ap}
+use mathlib.Core.Path.{ap}
 use Rattle.host.specs.Answers.{Outcome}
 use Rattle.history.specs.Steps.{after}
 use Rattle.script.specs.Steps.{doing, makingOf}
@@ -58,12 +58,12 @@ unfolding makingOf after
 returns-12 c = arm 12 (c .before .before .before .before .before .before .before .before .before .before .args .h) (c .before .before .before .before .before .before .before .before .before .before .args .store .now) (c .before .before .before .before .before .before .before .before .before .before .args .f) (c .before .before .before .before .before .before .before .before .before .before .args .payload .now) (c .before .before .before .before .before .before .before .before .before .before .args .buffer .now) (c .before .before .before .before .before .match .keys12) (rw (c .done12 .ensures) (ap (λ (o : Outcome). doing o (c .before .before .before .before .before .before .before .before .before .before .args .buffer .now)) (c .before .before .before .exit .ensures)))
 
 returns-13 : tie.Need-returns-13
-returns-13 c = no-arm _ _ (c .before .before .before .before .before .before .args .f) _ _ (unknown (c .before .before .before .before .before .before .args .f .kind) (c .before .match .rest .0 .0 .0 .0 .0 .0 .0 .0 .0 .0 .0 .1) (c .before .match .rest .0 .0 .0 .0 .0 .0 .0 .0 .0 .0 .1) (c .before .match .rest .0 .0 .0 .0 .0 .0 .0 .0 .0 .1) (c .before .match .rest .0 .0 .0 .0 .0 .0 .0 .0 .1) (c .before .match .rest .0 .0 .0 .0 .0 .0 .0 .1) (c .before .match .rest .0 .0 .0 .0 .0 .0 .1) (c .before .match .rest .0 .0 .0 .0 .0 .1) (c .before .match .rest .0 .0 .0 .0 .1) (c .before .match .rest .0 .0 .0 .1) (c .before .match .rest .0 .0 .1) (c .before .match .rest .0 .1) (c .before .match .rest .1)) (rw (c .no-answer .ensures))
+returns-13 c = no-arm _ _ (c .before .before .before .before .before .before .args .f) _ _ (unknown (c .before .before .before .before .before .before .args .f .kind) (c .before .match .rest .0 .0 .0 .0 .0 .0 .0 .0 .0 .0 .0 .1) (c .before .match .rest .0 .0 .0 .0 .0 .0 .0 .0 .0 .0 .1) (c .before .match .rest .0 .0 .0 .0 .0 .0 .0 .0 .0 .1) (c .before .match .rest .0 .0 .0 .0 .0 .0 .0 .0 .1) (c .before .match .rest .0 .0 .0 .0 .0 .0 .0 .1) (c .before .match .rest .0 .0 .0 .0 .0 .0 .1) (c .before .match .rest .0 .0 .0 .0 .0 .1) (c .before .match .rest .0 .0 .0 .0 .1) (c .before .match .rest .0 .0 .0 .1) (c .before .match .rest .0 .0 .1) (c .before .match .rest .0 .1) (c .before .match .rest .1)) (rw (c .numbered .ensures))
 
 -- socket-requires, done-requires, bind-requires, done-requires-2, connect-requires, done-requires-3, disconnect-requires, done-requires-4,
 -- sendto-requires, done-requires-5, recvfrom-requires, done-requires-6, close-requires, done-requires-7, setopt-requires, done-requires-8,
 -- flow-in-requires, datagram-requires, done-requires-9, flow-in-requires-2, notice-requires, done-requires-10, out-step-requires, done-requires-11,
--- exit-requires, done-requires-12, no-answer-requires, same-length, returns, same-length-2, returns-2, same-length-3, returns-3, same-length-4,
+-- exit-requires, done-requires-12, numbered-requires, same-length, returns, same-length-2, returns-2, same-length-3, returns-3, same-length-4,
 -- returns-4, same-length-5, returns-5, same-length-6, same-length-7, returns-6, same-length-8, returns-7, same-length-9, returns-8, same-length-10,
 -- returns-9, same-length-11, returns-10, same-length-12, same-length-13, returns-11, same-length-14, returns-12, returns-13
 pub make-spec : {M : Type 1} → statement M
