@@ -1,0 +1,5 @@
+pub mod Arms
+pub mod Crossing
+pub mod Boundary
+pub mod Steps
+pub mod OneResult
