@@ -200,12 +200,14 @@ mod linked {
     }
 
     /// Opens a host: 0, 2 or 17.
+    #[inline]
     pub fn open(list: &[Interface], store: &mut [u8]) -> Reply {
         // SAFETY: both slices are valid for their lengths and not null.
         unsafe { udphost_open(list.as_ptr(), list.len(), store.as_mut_ptr(), store.len()) }
     }
 
-    /// One step, as the request's kind says.
+    /// One step, as the request's kind says. Inline, since the record is large.
+    #[inline]
     pub fn step(
         kept: Record,
         store: &mut [u8],

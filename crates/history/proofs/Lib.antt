@@ -8,6 +8,7 @@ pub mod Effects
 pub mod Order
 pub mod Outgoing
 pub mod Facts
+pub mod Ran
 pub mod Numbers
 pub mod Preservation
 pub mod Reuse

@@ -21,6 +21,11 @@ unfoldable pub run : World → List Step → World
 run w [] = w
 run w (t ∷ ts) = run (next w t) ts
 
+-- w' is what some steps make of w
+pub record Ran (w w' : World) : Type 0 where
+  pub steps : List Step
+  pub there : w' ≡ run w steps
+
 -- the host and the store that an opening leaves
 abbrev pub opening : List Interface → ℕ → List ℕ → World
 opening is n s = record { host = opened is n s .host; bytes = opened is n s .bytes }

@@ -4,3 +4,4 @@ pub mod OneResult
 pub mod Turns
 pub mod Plays
 pub mod Ending
+pub mod Runs
