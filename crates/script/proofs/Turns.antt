@@ -2,7 +2,7 @@
 -- Assumes nothing.
 use mathlib.Core.Path.{_≡_, refl, sym, ap, _∙_}
 use mathlib.Core.List.{List}
-use mathlib.Core.Bool.{true, false, not}
+use mathlib.Core.Bool.{Bool, true, false, not, cond}
 use Prim.Native.Nat.{ℕ, _+_, _-_, _*_, _≤_}
 use native.Mathlib.Omega.{arith}
 use lib.ListN.{length, take, drop}
@@ -31,26 +31,23 @@ module _ (p : Play) (input s b : List ℕ) {f : Fields} {m : Made} {t u x : List
       ap (turnOf (p .n) (f .kind)) (em ∙ ap (λ (y : List ℕ). making (p .host) s f y b) ex)
       ∙ ap (λ (g : Fields). turnOf (p .n) (g .kind) (making (p .host) s g (payload (p .n + 1) (g .len)) b)) ef
 
-  pub turned-line : {out after : List ℕ} {at : ℕ} → m .known ≡ true → Wrote out (p .at) (line (p .n + 1) (f .kind) (m .answer)) after at
-      → Turned p (turn input (p .n) (p .host) s b) (record { host = m .host; at = at; n = p .n + 1; ended = false }) t u out after
-  turned-line {out} {after} {at} k w =
+  -- known or not: what it says was printed
+  turned : {out after : List ℕ} {at : ℕ} (k : Bool) → m .known ≡ k → Wrote out (p .at) (cond k (line (p .n + 1) (f .kind) (m .answer)) (closing (p .n + 1) badWord)) after at
+      → Turned p (turn input (p .n) (p .host) s b) (record { host = m .host; at = at; n = p .n + 1; ended = not k }) t u out after
+  turned {out} {after} {at} k e w =
       record {
         host = ap (λ (y : Turn). y .host) turn-is;
         store = ap (λ (y : Turn). y .bytes) turn-is;
         buffer = ap (λ (y : Turn). y .lent) turn-is;
-        ended = sym (ap not k) ∙ ap (λ (y : Turn). y .ended) turn-is;
+        ended = sym (ap not e) ∙ ap (λ (y : Turn). y .ended) turn-is;
         count = refl;
-        text = rw (← ap (λ (y : Turn). y .said) turn-is) (simp k w);
+        text = rw (← ap (λ (y : Turn). y .said) turn-is) (simp e w);
       }
+
+  pub turned-line : {out after : List ℕ} {at : ℕ} → m .known ≡ true → Wrote out (p .at) (line (p .n + 1) (f .kind) (m .answer)) after at
+      → Turned p (turn input (p .n) (p .host) s b) (record { host = m .host; at = at; n = p .n + 1; ended = false }) t u out after
+  turned-line e w = turned true e w
 
   pub turned-bad : {out after : List ℕ} {at : ℕ} → m .known ≡ false → Wrote out (p .at) (closing (p .n + 1) badWord) after at
       → Turned p (turn input (p .n) (p .host) s b) (record { host = m .host; at = at; n = p .n + 1; ended = true }) t u out after
-  turned-bad {out} {after} {at} k w =
-      record {
-        host = ap (λ (y : Turn). y .host) turn-is;
-        store = ap (λ (y : Turn). y .bytes) turn-is;
-        buffer = ap (λ (y : Turn). y .lent) turn-is;
-        ended = sym (ap not k) ∙ ap (λ (y : Turn). y .ended) turn-is;
-        count = refl;
-        text = rw (← ap (λ (y : Turn). y .said) turn-is) (simp k w);
-      }
+  turned-bad e w = turned false e w
