@@ -1,4 +1,6 @@
 // What a step gives back. The tables of refusals stand in the module.
+#![tactic(auto)]
+
 ghost use Rattle.std.specs.Prelude.{◌≡◌};
 ghost use Rattle.answers.specs.Answers.{plain, told, named, valued, needing, read_of, polled, emitted};
 
@@ -9,7 +11,7 @@ pub mod tables;
 
 // Document 01's number, and what some answers give; a field that an answer does not use is 0.
 #[repr(C)]
-#[derive(Drop)]
+#[derive(Clone, Copy)]
 pub struct Answer {
     pub item: OutItem,
     pub address: u32,

@@ -1,6 +1,8 @@
 // Every number that arrivals and the out step give, from the check that gives it first. A line is what is asked, the
 // number and the descriptor. A read adds the sender, the length and the buffer's first byte; an out step adds the
 // item's kind, flow and length and the buffer's first and fourth byte. What nothing was written to is 170.
+#![tactic(auto)]
+
 use answers::Answer;
 use host::Host;
 use libc::STDOUT_FILENO;

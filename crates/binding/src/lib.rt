@@ -1,4 +1,6 @@
 // What the calls do to the sockets. Nothing here is given a queue.
+#![tactic(auto)]
+
 ghost use Rattle.std.specs.Prelude.{◌≡◌, ◌≤◌};
 ghost use Rattle.state.specs.Places.{no_socket};
 ghost use Rattle.binding.specs.Sockets.{new_socket, closed_at, lowest_closed, with_local, with_remote, with_error, with_options, port_for};

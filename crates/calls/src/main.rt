@@ -1,5 +1,7 @@
 // Every number that opening and the calls give, from the check that gives it first. A line is:
 // what is asked, the number, and the answer's descriptor, address, port, length, value and ready masks.
+#![tactic(auto)]
+
 use answers::Answer;
 use host::Host;
 use libc::STDOUT_FILENO;

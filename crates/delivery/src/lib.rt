@@ -1,4 +1,6 @@
 // What becomes of a datagram, and who hears of a notice. Nothing here is given interfaces, options to set or the thread.
+#![tactic(auto)]
+
 ghost use Rattle.std.specs.Prelude.{◌≡◌, ◌≤◌, length};
 ghost use Rattle.queues.specs.Moves.{carried, Carriable};
 ghost use Rattle.outqueue.specs.Moves.{item_at, Some};
@@ -11,7 +13,7 @@ use queues::Queues;
 use state::{Queued, Socket};
 
 // 20 delivered to at, 21 dropped by at; 0 where there is no winner.
-#[derive(Drop)]
+#[derive(Clone, Copy)]
 pub struct Delivery {
     pub queues: Queues,
     pub number: u8,
@@ -19,14 +21,14 @@ pub struct Delivery {
 }
 
 // 22 a notice is queued, 23 none is.
-#[derive(Drop)]
+#[derive(Clone, Copy)]
 pub struct Queueing {
     pub out: OutQueue,
     pub number: u8,
 }
 
 // 20, 21, 22 or 23; at is the winner with 20 and 21, else 0.
-#[derive(Drop)]
+#[derive(Clone, Copy)]
 pub struct Landing {
     pub queues: Queues,
     pub out: OutQueue,
@@ -35,7 +37,7 @@ pub struct Landing {
 }
 
 // 27 or 28 with the winner, or 29.
-#[derive(Drop)]
+#[derive(Clone, Copy)]
 pub struct Hearing {
     pub at: usize,
     pub number: u8,

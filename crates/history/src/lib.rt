@@ -1,1 +1,3 @@
 // No code: steps, runs, and what is proved of every one.
+#![tactic(auto)]
+

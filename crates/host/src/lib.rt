@@ -1,4 +1,6 @@
 // The host's record, what a step gives back, and the checks that every step begins with. The calls stand in the modules.
+#![tactic(auto)]
+
 ghost use Rattle.std.specs.Prelude.{◌≡◌};
 ghost use Rattle.state.specs.Places.{socket_in};
 ghost use Rattle.host.specs.Arrivals.{landed_step, heard_step};
@@ -28,7 +30,7 @@ pub mod polling;
 pub mod reading;
 pub mod sending;
 
-#[derive(Drop)]
+#[derive(Clone, Copy)]
 pub struct Host {
     pub interfaces: [Interface; 4],
     pub sockets: [Socket; 16],
@@ -38,7 +40,7 @@ pub struct Host {
     pub icount: u8,
 }
 
-#[derive(Drop)]
+#[derive(Clone, Copy)]
 pub struct Stepped {
     pub host: Host,
     pub answer: Answer,

@@ -1,1 +1,2 @@
 // No code: what the other crates' definitions and proofs share.
+#![tactic(auto)]

@@ -1,4 +1,6 @@
 // Opening over a lent list of interface records. Host::opening takes an array and a count; here the list is taken apart for it.
+#![tactic(auto)]
+
 ghost use Rattle.std.specs.Prelude.{◌≡◌, [], ◌∷◌, get_or};
 ghost use Rattle.host.specs.Answers.{outcome};
 ghost use Rattle.host.specs.Opening.{opened};

@@ -1,22 +1,24 @@
 // Ports, descriptors and interface ids are types of their own (000, 2.1). An address is a u32, the first of its four numbers highest.
+#![tactic(auto)]
+
 ghost use Rattle.std.specs.Prelude.{◌≡◌};
 ghost use Rattle.net.specs.Address.{no_flow, loopback, martian, stray, agree};
 
 #[repr(C)]
-#[derive(Drop)]
+#[derive(Clone, Copy)]
 pub struct Port(pub u16);
 
 #[repr(C)]
-#[derive(Drop)]
+#[derive(Clone, Copy)]
 pub struct Descriptor(pub u8);
 
 #[repr(C)]
-#[derive(Drop)]
+#[derive(Clone, Copy)]
 pub struct InterfaceId(pub u8);
 
 // Where a datagram comes from and where it goes.
 #[repr(C)]
-#[derive(Drop)]
+#[derive(Clone, Copy)]
 pub struct Flow {
     pub src: u32,
     pub dst: u32,

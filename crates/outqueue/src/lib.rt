@@ -1,4 +1,6 @@
 // The out-queue: items in the record, payloads in the lent store's last 16 slots (000, 2.3.18).
+#![tactic(auto)]
+
 ghost use Rattle.std.specs.Prelude.{◌≡◌, [], ◌-◌, ◌≤◌, ◌<◌, length};
 ghost use Rattle.laws.specs.Places.{popped};
 ghost use Rattle.state.specs.Places.{no_item};
@@ -10,7 +12,7 @@ use state::{Interface, OutItem};
 
 // Item i is the i-th oldest; its payload is the slot of 512 bytes at byte 32,768 + 512 * i.
 #[repr(C)]
-#[derive(Drop)]
+#[derive(Clone, Copy)]
 pub struct OutQueue {
     pub items: [OutItem; 16],
     pub count: u8,

@@ -1,4 +1,6 @@
 // The sockets' queues: heads and counts in the record, payloads in the lent store. No move here is given a socket.
+#![tactic(auto)]
+
 ghost use Rattle.std.specs.Prelude.{◌≡◌, [], ◌+◌, ◌≤◌, ◌<◌, length};
 ghost use Rattle.state.specs.Places.{no_head};
 ghost use Rattle.store.specs.Store.{slot_written};
@@ -10,7 +12,7 @@ use state::{Queued, Socket};
 
 // Socket k's queue is the heads from 4 * k, oldest first, and the four slots of 512 bytes from byte 2,048 * k.
 #[repr(C)]
-#[derive(Drop)]
+#[derive(Clone, Copy)]
 pub struct Queues {
     pub heads: [Queued; 64],
     pub counts: [u8; 16],

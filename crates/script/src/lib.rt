@@ -1,4 +1,6 @@
 // What a script's bytes mean (document 01, "The script program"): fields of a step, and the host call that its kind chooses.
+#![tactic(auto)]
+
 ghost use Rattle.std.specs.Prelude.{◌≡◌, ◌+◌, ◌≤◌, length, true};
 ghost use Rattle.script.specs.Fields.{word, long, fields_at, flow_in};
 ghost use Rattle.script.specs.Steps.{made, making};
@@ -12,7 +14,7 @@ pub mod playing;
 pub mod whole;
 
 // A step's 16 bytes.
-#[derive(Drop)]
+#[derive(Clone, Copy)]
 pub struct Fields {
     pub a: u32,
     pub b: u32,
@@ -24,7 +26,7 @@ pub struct Fields {
 }
 
 // What a step made of the host; not known: a kind that is none.
-#[derive(Drop)]
+#[derive(Clone, Copy)]
 pub struct Made {
     pub host: Host,
     pub answer: Answer,
@@ -32,7 +34,7 @@ pub struct Made {
 }
 
 // The host after n steps, and where the text ends.
-#[derive(Drop)]
+#[derive(Clone, Copy)]
 pub struct Play {
     pub host: Host,
     pub at: usize,

@@ -1,4 +1,6 @@
 // What the host's record is made of; each module has what one part of it must be.
+#![tactic(auto)]
+
 use net::{Descriptor, Flow, InterfaceId, Port};
 
 pub mod interfaces;
@@ -7,7 +9,7 @@ pub mod threads;
 
 // An interface: an address that is 0 is absent, and the first is the primary one (000, 2.1.3).
 #[repr(C)]
-#[derive(Drop)]
+#[derive(Clone, Copy)]
 pub struct Interface {
     pub mask: u32,
     pub first: u32,
@@ -19,7 +21,7 @@ pub struct Interface {
 
 // A socket (000, 2.1.4): 0 is absent or wildcard. Its queue stands in the crate queues.
 #[repr(C)]
-#[derive(Drop)]
+#[derive(Clone, Copy)]
 pub struct Socket {
     pub laddr: u32,
     pub raddr: u32,
@@ -33,7 +35,7 @@ pub struct Socket {
 
 // The head of a queued datagram; its bytes are in the store.
 #[repr(C)]
-#[derive(Drop)]
+#[derive(Clone, Copy)]
 pub struct Queued {
     pub flow: Flow,
     pub len: u16,
@@ -43,14 +45,14 @@ pub struct Queued {
 // An item of the out-queue. Kind 0 is a datagram, 1 a PORT notice, 2 a HOST notice.
 // A notice goes back along the flow that it embeds, so one flow serves both.
 #[repr(C)]
-#[derive(Drop)]
+#[derive(Clone, Copy)]
 pub struct OutItem {
     pub flow: Flow,
     pub len: u16,
     pub kind: u8,
 }
 
-#[derive(Drop)]
+#[derive(Clone, Copy)]
 pub enum Thread {
     Running,
     Waiting(Descriptor),

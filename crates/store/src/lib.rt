@@ -1,4 +1,6 @@
 // The lent store: slots of 512 bytes. Every function takes the whole slice and an index, and promises the whole list.
+#![tactic(auto)]
+
 ghost use Rattle.std.specs.Prelude.{◌≡◌, ◌+◌, ◌*◌, ◌≤◌, ◌<◌, length};
 ghost use Rattle.laws.specs.Places.{part, splice};
 ghost use Rattle.store.specs.Store.{zeros, slot_written, slot_zeroed, slots_popped};

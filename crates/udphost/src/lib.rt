@@ -1,4 +1,6 @@
 // The host for callers in C and Rust. The record crosses by value, its thread as two numbers; a request is one step.
+#![tactic(auto)]
+
 ghost use Rattle.std.specs.Prelude.{◌≡◌, []};
 ghost use Rattle.lent.specs.List.{opened_list};
 ghost use Rattle.udphost.specs.Crossing.{thread_known, thread_of, thread_number, thread_awaited, host_of, record_of};
@@ -15,7 +17,7 @@ mod requests;
 
 // The record as C has it: thread is 0 running, 1 waiting on the descriptor awaited, 2 ended.
 #[repr(C)]
-#[derive(Drop)]
+#[derive(Clone, Copy)]
 pub struct Record {
     pub interfaces: [Interface; 4],
     pub sockets: [Socket; 16],
@@ -28,7 +30,7 @@ pub struct Record {
 
 // A step and its arguments; what a kind does not use is ignored.
 #[repr(C)]
-#[derive(Drop)]
+#[derive(Clone, Copy)]
 pub struct Request {
     pub flow: Flow,
     pub src: u32,
@@ -45,7 +47,7 @@ pub struct Request {
 
 // The record for the next step, and the answer.
 #[repr(C)]
-#[derive(Drop)]
+#[derive(Clone, Copy)]
 pub struct Reply {
     pub next: Record,
     pub answer: Answer,

@@ -1,4 +1,6 @@
 // The script program: standard input to standard output. What it prints is `output` of what it read.
+#![tactic(auto)]
+
 use libc::{STDIN_FILENO, STDOUT_FILENO};
 
 // A header and 60,000 steps: nothing behind them is read.

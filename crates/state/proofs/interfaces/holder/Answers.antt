@@ -1,0 +1,30 @@
+use Rattle.std.proofs.Common.{rules, ◌≡◌, ◌&&◌, ℕ, ◌+◌, ◌-◌, ◌*◌, ◌<◌, ◌≤◌, length, ◌/◌, ◌%◌, Bool, true, false, nat_eq, nat_lt, List, [], ◌∷◌, ◌++◌, slice_index_or, slice_set, bit_and, bit_or, Fits, w8, w32, w64, Bor, MutBor}
+use Rattle.state.specs.Places.{no_interface}
+use Rattle.state.specs.Interfaces.{id_known, addressed, member, in_one_net, distinct_within, acceptable, usable, interface_ok, blank, fits, holds, lacks, pair_apart, apart_if, opening_ok, own_of, ours_of, own, ours, holder_id}
+use Rattle.state.proofs.interfaces.holder.Goals as goal
+use mathlib.Core.Path.{sym, ap, ◌∙◌}
+use native.Mathlib.Omega.{arith}
+use lib.ListN.{get_or-eq_default}
+use Rattle.laws.proofs.Below.{Seeking, seek_start, seek_on, seek_found, seek_none}
+use Rattle.state.specs.declared.Interface.{Interface}
+use Rattle.state.specs.Places.{interface_in}
+use Rattle.state.specs.Interfaces.{holder}
+
+
+-- src/interfaces.rt:206:13
+pub returns-then-has : goal.returns-then-has
+unfolding holder
+returns-then-has c =
+    ap (λ (i : ℕ). (interface_in c.args.interfaces i).id)
+    (sym (seek_found c.loop-i.invariant (search rules) c.has.ensures c.if-has.true))
+
+-- src/interfaces.rt:203:5
+pub loop-i-preserved : goal.loop-i-preserved
+loop-i-preserved c = seek_on c.loop-i.invariant (search rules) c.has.ensures c.if-has.false
+
+-- src/interfaces.rt:199:1
+pub returns : goal.returns
+unfolding holder
+returns c =
+    sym (ap (λ (i : ℕ). (interface_in c.args.interfaces i).id) (seek_none c.loop-i.invariant (search rules))
+    ∙ ap (λ (x : Interface). x.id) (get_or-eq_default c.args.interfaces no_interface {n = 4} (omega (arith, c.well_formed.0.1.0.1))))

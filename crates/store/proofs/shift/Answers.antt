@@ -1,0 +1,20 @@
+use Rattle.std.proofs.Common.{rules, ◌≡◌, ◌+◌, ◌*◌, ◌≤◌, ◌<◌, length, ℕ, ◌-◌, ◌/◌, ◌%◌, Bool, true, false, nat_eq, nat_lt, List, [], ◌∷◌, ◌++◌, slice_index_or, slice_set, bit_and, bit_or, Fits, w8, w32, w64, Bor, MutBor}
+use Rattle.laws.specs.Places.{part, splice}
+use Rattle.store.specs.Store.{zeros, slot_written, slot_zeroed, slots_popped}
+use Rattle.store.proofs.shift.Goals as goal
+use mathlib.Core.Path.{refl, sym, ◌∙◌}
+use Rattle.laws.proofs.Splice.{length_part, get_or_part}
+use Rattle.laws.proofs.Filling.{Filling, fill_start, fill_turn, fill_done, fill_ahead}
+
+
+-- src/lib.rt:40:5
+pub loop-j-init : goal.loop-j-init
+loop-j-init c = fill_start _ _ _ _ _ (length_part _ _ _ (search rules)) (search rules)
+
+-- src/lib.rt:40:5
+pub loop-j-preserved : goal.loop-j-preserved
+loop-j-preserved c = let f = c.loop-j.invariant in fill_turn f _ _ refl (search rules) (fill_ahead f _ (search rules) ∙ sym (get_or_part _ _ _ _ _ (search rules)))
+
+-- src/lib.rt:35:1
+pub returns : goal.returns
+returns c = fill_done c.loop-j.invariant (search rules)
