@@ -1,0 +1,22 @@
+use Rattle.std.proofs.Common.{rules, ◌≡◌, ◌≤◌, ℕ, ◌+◌, ◌-◌, ◌*◌, ◌<◌, length, ◌/◌, ◌%◌, Bool, true, false, nat_eq, nat_lt, List, [], ◌∷◌, ◌++◌, slice_index_or, slice_set, bit_and, bit_or, Fits, w8, w32, w64, Bor, MutBor}
+use Rattle.state.specs.Places.{no_socket}
+use Rattle.binding.specs.Sockets.{new_socket, closed_at, lowest_closed, with_local, with_remote, with_error, with_options, port_for}
+use Rattle.binding.proofs.lowest_closed.Goals as goal
+use mathlib.Core.Path.{sym}
+use Rattle.laws.proofs.Below.{Seeking, seek_start, seek_on, seek_found, seek_none}
+use Rattle.state.specs.Places.{socket_in}
+
+
+-- src/lib.rt:57:13
+pub returns-then-is_closed : goal.returns-then-is_closed
+unfolding lowest_closed
+returns-then-is_closed c = (sym (seek_found c.loop-k.invariant (search rules) c.is_closed.ensures c.if-is_closed.true), search rules)
+
+-- src/lib.rt:55:5
+pub loop-k-preserved : goal.loop-k-preserved
+loop-k-preserved c = seek_on c.loop-k.invariant (search rules) c.is_closed.ensures c.if-is_closed.false
+
+-- src/lib.rt:51:1
+pub returns : goal.returns
+unfolding lowest_closed
+returns c = (sym (seek_none c.loop-k.invariant (search rules)), search rules)

@@ -1,0 +1,23 @@
+use Rattle.std.proofs.Common.{rules, ◌≡◌, ℕ, ◌+◌, ◌-◌, ◌*◌, ◌<◌, ◌≤◌, length, ◌/◌, ◌%◌, Bool, true, false, nat_eq, nat_lt, List, [], ◌∷◌, ◌++◌, slice_index_or, slice_set, bit_and, bit_or, Fits, w8, w32, w64, Bor, MutBor}
+use Rattle.matching.specs.Ports.{takes, leaves, in_use, lacks_port, port_free, auto_port}
+use Rattle.matching.proofs.ports.autobind.Goals as goal
+use mathlib.Core.Path.{sym, ◌∙◌}
+use native.Mathlib.Omega.{arith}
+use Rattle.laws.proofs.Below.{Seeking, seek_start, seek_on, seek_found, seek_none}
+
+-- src/ports.rt:58:13
+pub returns-then-is_port_free : goal.returns-then-is_port_free
+unfolding auto_port
+returns-then-is_port_free c = sym (seek_found c.loop-p.invariant (search rules) c.is_port_free.ensures c.if-is_port_free.true)
+
+-- src/ports.rt:56:5
+pub loop-p-preserved : goal.loop-p-preserved
+loop-p-preserved c = seek_on c.loop-p.invariant (search rules) c.is_port_free.ensures c.if-is_port_free.false
+
+-- src/ports.rt:52:1
+pub returns : goal.returns
+unfolding auto_port
+returns c =
+    let k = c.loop-p.invariant in
+    let e : c.loop-p.p ≡ 1024 + 3976 = omega (arith, k.upto) in
+    e ∙ sym (seek_none k (search rules))

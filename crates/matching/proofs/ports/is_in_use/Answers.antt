@@ -1,0 +1,21 @@
+use Rattle.std.proofs.Common.{rules, ◌≡◌, ℕ, ◌+◌, ◌-◌, ◌*◌, ◌<◌, ◌≤◌, length, ◌/◌, ◌%◌, Bool, true, false, nat_eq, nat_lt, List, [], ◌∷◌, ◌++◌, slice_index_or, slice_set, bit_and, bit_or, Fits, w8, w32, w64, Bor, MutBor}
+use Rattle.matching.specs.Ports.{takes, leaves, in_use, lacks_port, port_free, auto_port}
+use Rattle.matching.proofs.ports.is_in_use.Goals as goal
+use Rattle.laws.proofs.Below.{Collected, all_start, all_turn, all_done}
+use mathlib.Core.Path.{ap}
+use mathlib.Core.Bool.{not}
+use lib.Dec.{eqb}
+use Rattle.state.specs.Places.{socket_in}
+
+-- src/ports.rt:27:5
+pub loop-j-init : goal.loop-j-init
+loop-j-init c = (search rules, all_start _ _)
+
+-- src/ports.rt:27:5
+pub loop-j-preserved : goal.loop-j-preserved
+loop-j-preserved c = (search rules, all_turn c.loop-j.invariant.1 c.is_leaving-ok.ensures)
+
+-- src/ports.rt:23:1
+pub returns : goal.returns
+unfolding in_use
+returns c = ap not (all_done c.loop-j.invariant.1 16 (search rules) (search rules))

@@ -1,0 +1,16 @@
+use Rattle.std.proofs.Common.{rules, ◌≡◌, ◌≤◌, ℕ, ◌+◌, ◌-◌, ◌*◌, ◌<◌, length, ◌/◌, ◌%◌, Bool, true, false, nat_eq, nat_lt, List, [], ◌∷◌, ◌++◌, slice_index_or, slice_set, bit_and, bit_or, Fits, w8, w32, w64, Bor, MutBor}
+use Rattle.matching.specs.Routes.{reaches, route_via, four_of, route_source}
+use Rattle.matching.proofs.routes.source.Goals as goal
+use Rattle.matching.proofs.Paths.{source_loopback, source_none, source_via}
+
+-- src/routes.rt:40:9
+pub returns-then-is_loopback : goal.returns-then-is_loopback
+returns-then-is_loopback c = source_loopback _ _ _ c.is_loopback.ensures c.if-is_loopback.true
+
+-- src/routes.rt:44:9
+pub returns-then-m-eq0 : goal.returns-then-m-eq0
+returns-then-m-eq0 c = source_none _ _ _ c.is_loopback.ensures c.if-is_loopback.false c.at_most_four-m.ensures.0 c.if-m-eq0.true
+
+-- src/routes.rt:36:1
+pub returns : goal.returns
+returns c = source_via _ _ _ _ c.is_loopback.ensures c.if-is_loopback.false c.at_most_four-m.ensures.0 c.if-m-eq0.false c.via-i.ensures.0
