@@ -160,7 +160,7 @@ impl Queues {
     // Socket k's oldest datagram goes into the buffer and leaves the queue (000, recvfrom.1 and recvfrom.6).
     pub fn take(self, store: &mut [u8], k: usize, buffer: &mut [u8]) -> Queues
         requires some { Some self store.old k }
-        requires k_bound { ((first_head self k).len ≤ 512) × ((first_head self k).len ≤ length buffer.old) }
+        requires lent { ((first_head self k).len ≤ 512) × ((first_head self k).len ≤ length buffer.old) }
         ensures { left result store.new buffer.new ≡ taken self store.old k buffer.old }
     {
         let h = self.heads[4 * k];

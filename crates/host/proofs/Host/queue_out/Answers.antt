@@ -1,0 +1,20 @@
+use Rattle.std.proofs.Common.{rules, ◌≡◌, [], length, ℕ, ◌+◌, ◌-◌, ◌*◌, ◌<◌, ◌≤◌, ◌/◌, ◌%◌, Bool, true, false, nat_eq, nat_lt, List, ◌∷◌, ◌++◌, slice_index_or, slice_set, bit_and, bit_or, Fits, w8, w32, w64, Bor, MutBor}
+use Rattle.host.specs.Answers.{outcome}
+use Rattle.answers.specs.Tables.{first}
+use Rattle.host.specs.Entered.{Ready}
+use Rattle.host.specs.Sending.{half_given, both_absent, target, target_port, send_rows, flow_of, queued_out, sent}
+use Rattle.host.proofs.Host.queue_out.Goals as goal
+use mathlib.Core.Path.{refl, ap}
+use Rattle.outqueue.specs.Moves.{Left}
+use Rattle.host.proofs.Refusals.{refuses, passes}
+use Rattle.host.proofs.Passed.{sendable}
+
+-- src/sending.rt:91:13
+pub returns-then-n-ne0 : goal.returns-then-n-ne0
+unfolding queued_out
+returns-then-n-ne0 c = rw c.refused.ensures (refuses _ _ _ _ c.send_refusal-n.ensures c.if-n-ne0.true refl)
+
+-- src/sending.rt:78:5
+pub returns : goal.returns
+unfolding queued_out
+returns c = passes _ _ _ _ c.send_refusal-n.ensures c.if-n-ne0.false (rw (c.numbered.ensures, c.with_out.ensures, c.autobound-h.ensures, ap (λ (x : Left). x.out) c.add-longer.ensures, ap (λ (x : Left). x.bytes) c.add-longer.ensures, c.flow_of-flow.ensures))

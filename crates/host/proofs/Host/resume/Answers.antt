@@ -1,0 +1,26 @@
+use Rattle.std.proofs.Common.{rules, ◌≡◌, [], ◌<◌, length, ℕ, ◌+◌, ◌-◌, ◌*◌, ◌≤◌, ◌/◌, ◌%◌, Bool, true, false, nat_eq, nat_lt, List, ◌∷◌, ◌++◌, slice_index_or, slice_set, bit_and, bit_or, Fits, w8, w32, w64, Bor, MutBor}
+use Rattle.host.specs.Answers.{outcome}
+use Rattle.host.specs.Entered.{Ready, Holding}
+use Rattle.host.specs.Reading.{oldest_taken, waiting_on, received, awaited_by, resume_refusal, resumed_on, resumed, interrupted}
+use Rattle.host.proofs.Host.resume.Goals as goal
+use mathlib.Core.Path.{refl}
+use Rattle.host.proofs.Refusals.{refuses, passes}
+use Rattle.host.proofs.Passed.{resuming}
+
+-- src/reading.rt:119:13
+pub returns-then-n-ne0 : goal.returns-then-n-ne0
+unfolding resumed
+returns-then-n-ne0 c = rw c.refused.ensures (refuses _ _ _ _ c.wait_rows-n.ensures c.if-n-ne0.true refl)
+
+-- src/reading.rt:122:9
+pub resume_on-requires-clause-ready : goal.resume_on-requires-clause-ready
+resume_on-requires-clause-ready c = (resuming c.args.self (length c.args.store.now) c.wait_rows-n.ensures c.if-n-ne0.false).0
+
+-- src/reading.rt:122:9
+pub resume_on-requires-clause-k_bound : goal.resume_on-requires-clause-k_bound
+resume_on-requires-clause-k_bound c = rw c.awaited.ensures (resuming c.args.self (length c.args.store.now) c.wait_rows-n.ensures c.if-n-ne0.false).1
+
+-- src/reading.rt:114:5
+pub returns : goal.returns
+unfolding resumed
+returns c = passes _ _ _ _ c.wait_rows-n.ensures c.if-n-ne0.false (rw c.awaited.ensures at c.resume_on.ensures)

@@ -1,0 +1,28 @@
+use Rattle.std.proofs.Common.{rules, ◌≡◌, [], ◌<◌, length, ℕ, ◌+◌, ◌-◌, ◌*◌, ◌≤◌, ◌/◌, ◌%◌, Bool, true, false, nat_eq, nat_lt, List, ◌∷◌, ◌++◌, slice_index_or, slice_set, bit_and, bit_or, Fits, w8, w32, w64, Bor, MutBor}
+use Rattle.host.specs.Answers.{outcome}
+use Rattle.host.specs.Entered.{Ready, Holding}
+use Rattle.host.specs.Reading.{oldest_taken, waiting_on, received, awaited_by, resume_refusal, resumed_on, resumed, interrupted}
+use Rattle.host.proofs.Host.take_oldest.Goals as goal
+use mathlib.Core.Path.{ap}
+use native.Mathlib.Omega.{arith}
+use borrow.Author.Tests.{lt-ltb, le-ltb}
+use Rattle.queues.specs.Moves.{Left}
+use Rattle.host.proofs.Passed.{holds_some}
+
+-- src/reading.rt:32:27
+pub overflow_cast-len : goal.overflow_cast-len
+overflow_cast-len c = omega (arith, (holds_some c.requires).2)
+
+-- src/reading.rt:33:13
+pub returns-then-buffer-len : goal.returns-then-buffer-len
+unfolding oldest_taken
+returns-then-buffer-len c = simp (lt-ltb _ _ c.if-buffer-len.true, c.with_need.ensures)
+
+-- src/reading.rt:38:13
+pub take-rest-requires-clause-lent : goal.take-rest-requires-clause-k_bound
+take-rest-requires-clause-lent c = ((holds_some c.requires).2, c.if-buffer-len.false)
+
+-- src/reading.rt:25:5
+pub returns : goal.returns
+unfolding oldest_taken
+returns c = simp (le-ltb _ _ c.if-buffer-len.false) (rw (c.from_sender.ensures, c.with_thread.ensures, c.with_queues-g.ensures, ap (λ (x : Left). x.queues) c.take-rest.ensures, ap (λ (x : Left). x.bytes) c.take-rest.ensures, ap (λ (x : Left). x.lent) c.take-rest.ensures))

@@ -1,0 +1,11 @@
+use Rattle.std.proofs.Common.{rules, ◌≡◌, [], cond, ◌&&◌, ◌||◌, not, ◌<◌, ◌^◌, eqb, ℕ, ◌+◌, ◌-◌, ◌*◌, ◌≤◌, length, ◌/◌, ◌%◌, Bool, true, false, nat_lt, List, ◌∷◌, ◌++◌, slice_index_or, slice_set, bit_and, bit_or, Fits, w8, w32, w64, Bor, MutBor}
+use Rattle.host.specs.Answers.{outcome}
+use Rattle.host.specs.Polling.{bit, all_open, ready_by, writable_at, ready_below, poll_refusal, polled_of}
+use Rattle.host.proofs.Host.writable_bits.Goals as goal
+use lib.Dec.{ltb}
+use mathlib.Core.Path.{◌∙◌}
+use Rattle.host.proofs.Bits.{ready_same, marked_all}
+
+-- src/polling.rt:78:5
+pub returns : goal.returns
+returns c = let h = c.args.self in c.ready_bits.ensures ∙ ready_same _ _ _ 16 (λ i l. marked_all (ltb h.out.count 16) _ h.sockets i c.row-mark.ensures l)
