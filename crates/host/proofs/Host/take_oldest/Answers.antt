@@ -19,7 +19,7 @@ unfolding oldest_taken
 returns-then-buffer-len c = simp (lt-ltb _ _ c.if-buffer-len.true, c.with_need.ensures)
 
 -- src/reading.rt:38:13
-pub take-rest-requires-clause-lent : goal.take-rest-requires-clause-k_bound
+pub take-rest-requires-clause-lent : goal.take-rest-requires-clause-lent
 take-rest-requires-clause-lent c = ((holds_some c.requires).2, c.if-buffer-len.false)
 
 -- src/reading.rt:25:5
