@@ -1,0 +1,21 @@
+use Rattle.std.proofs.Common.{rules, ◌≡◌, ◌≤◌, ◌*◌, length, ℕ, ◌+◌, ◌-◌, ◌<◌, ◌/◌, ◌%◌, Bool, true, false, nat_eq, nat_lt, List, [], ◌∷◌, ◌++◌, slice_index_or, slice_set, bit_and, bit_or, Fits, w8, w32, w64, Bor, MutBor}
+use Rattle.laws.specs.Places.{splice, copies}
+use Rattle.script.specs.Playing.{turn, Turned, Playable, played, starting, At, Stage}
+use Rattle.script.proofs.playing.fill.Goals as goal
+use mathlib.Core.Path.{sym}
+use native.Mathlib.Omega.{arith}
+use Rattle.laws.proofs.Splice.{length_copies, get_or_copies}
+use Rattle.laws.proofs.Filling.{Filling, fill_start, fill_turn, fill_done}
+
+
+-- src/playing.rt:14:5
+pub loop-j-init : goal.loop-j-init
+loop-j-init c = fill_start _ _ _ _ _ (length_copies _ _) (search rules)
+
+-- src/playing.rt:14:5
+pub loop-j-preserved : goal.loop-j-preserved
+loop-j-preserved c = fill_turn c.loop-j.invariant _ _ (omega arith) (search rules) (sym (get_or_copies _ _ _ _ (search rules)))
+
+-- src/playing.rt:9:1
+pub returns : goal.returns
+returns c = fill_done c.loop-j.invariant (search rules)

@@ -1,0 +1,20 @@
+use Rattle.std.proofs.Common.{rules, ◌≡◌, ◌≤◌, ◌*◌, length, ℕ, ◌+◌, ◌-◌, ◌<◌, ◌/◌, ◌%◌, Bool, true, false, nat_eq, nat_lt, List, [], ◌∷◌, ◌++◌, slice_index_or, slice_set, bit_and, bit_or, Fits, w8, w32, w64, Bor, MutBor}
+use Rattle.laws.specs.Places.{splice, copies}
+use Rattle.script.specs.Playing.{turn, Turned, Playable, played, starting, At, Stage}
+use Rattle.script.proofs.playing.play.Goals as goal
+use native.Mathlib.Omega.{arith}
+use mathlib.Core.Path.{refl}
+use Rattle.script.proofs.Plays.{going_on, not_ended, Kept, kept_start, kept_turn, kept_done}
+
+
+-- src/playing.rt:70:5
+pub loop-p-init : goal.loop-p-init
+loop-p-init c = (kept_start _ c.args.start _ _ _ _ c.requires.first c.requires.start c.requires.going, refl, refl, refl)
+
+-- src/playing.rt:70:5
+pub loop-p-preserved : goal.loop-p-preserved
+loop-p-preserved c = let k = c.loop-p.invariant in (kept_turn _ _ _ _ c.requires.room k.0 (going_on c.loop-p.p.n c.args.m c.loop-p.p.ended c.loop-p-test.true) (not_ended c.loop-p.p.n c.args.m c.loop-p.p.ended c.loop-p-test.true) c.advance-p.ensures, search rules, search rules, search rules)
+
+-- src/playing.rt:57:1
+pub returns : goal.returns
+returns c = kept_done _ _ _ _ c.loop-p.invariant.0 c.loop-p-test.false
