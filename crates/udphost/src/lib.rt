@@ -142,19 +142,17 @@ fn crossed(r: Stepped) -> Reply
     }
 }
 
-// ---- the functions that C calls
+// ---- the functions that C calls, through udphost_c
 
 // Opening over a lent list of interface records. After 2 or 17 the record is that of an ended host, the store untouched.
-#[unsafe(no_mangle)]
-pub extern "C" fn udphost_open(list: &[Interface], store: &mut [u8]) -> Reply
+pub fn udphost_open(list: &[Interface], store: &mut [u8]) -> Reply
     ensures { crossing result store.new [] ≡ crossed_of (opened_list list.now store.old) }
 {
     crossed(lent::opening(list, store))
 }
 
 // One step. A record whose thread's numbers are none is answered with 1, a kind that is none with 1, 2 or 6.
-#[unsafe(no_mangle)]
-pub extern "C" fn udphost_step(
+pub fn udphost_step(
     kept: Record,
     store: &mut [u8],
     request: Request,
