@@ -4,34 +4,15 @@
 
 use answers::Answer;
 use host::Host;
-use libc::STDOUT_FILENO;
 use net::{Descriptor, InterfaceId, Port};
 use state::Interface;
+use std::io;
 
-fn number(n: u32) {
-    io::write_all(STDOUT_FILENO, b" ");
-    io::print_decimal(STDOUT_FILENO, n as u64);
-}
-
-fn number16(n: u16) {
-    number(n as u32);
-}
-
-fn number8(n: u8) {
-    number(n as u32);
-}
-
-fn say(asked: &[u8], a: Answer) {
-    io::write_all(STDOUT_FILENO, asked);
-    number8(a.number);
-    number8(a.descriptor.0);
-    number(a.address);
-    number16(a.port.0);
-    number16(a.len);
-    number8(a.value);
-    number16(a.readable);
-    number16(a.writable);
-    io::write_all(STDOUT_FILENO, b"\n");
+fn say(rt: &impl Print, asked: &str, a: Answer) -> io::Result<()> {
+    println!(rt;
+        "{asked} {} {} {} {} {} {} {} {}",
+        a.number, a.descriptor.0, a.address, a.port.0, a.len, a.value, a.readable, a.writable
+    )
 }
 
 fn interface(id: u8, mask: u32, first: u32) -> Interface {
@@ -57,100 +38,115 @@ fn one_interface() -> [Interface; 4] {
 
 // ---- opening: 2, 17, and 2 before 17
 
-fn openings(store: &mut [u8; 40960], short: &mut [u8; 40959], long: &mut [u8; 40961]) {
+fn openings(
+    rt: &impl Print,
+    store: &mut [u8; 40960],
+    short: &mut [u8; 40959],
+    long: &mut [u8; 40961],
+) -> io::Result<()> {
     let good = one_interface();
     let a = Host::opening(good, 1, store);
-    say(b"open", a.answer);
+    say(rt, "open", a.answer)?;
     let b = Host::opening(good, 1, short);
-    say(b"open with 40959", b.answer);
+    say(rt, "open with 40959", b.answer)?;
     let c = Host::opening(good, 1, long);
-    say(b"open with 40961", c.answer);
+    say(rt, "open with 40961", c.answer)?;
     let d = Host::opening(good, 2, store);
-    say(b"open with a blank second", d.answer);
+    say(rt, "open with a blank second", d.answer)?;
     let e = Host::opening(good, 2, short);
-    say(b"open with both", e.answer);
+    say(rt, "open with both", e.answer)?;
     let f = Host::opening(good, 0, store);
-    say(b"open with none counted", f.answer);
+    say(rt, "open with none counted", f.answer)
 }
 
 // ---- the entry checks in their order: 1, 2, 3, 4, 5
 
-fn entries(store: &mut [u8; 40960], short: &[u8; 40959], buffer: &mut [u8; 512]) {
+fn entries(
+    rt: &impl Print,
+    store: &mut [u8; 40960],
+    short: &[u8; 40959],
+    buffer: &mut [u8; 512],
+) -> io::Result<()> {
     let good = one_interface();
     let a = Host::opening(good, 1, store);
     let mut broken = a.host;
     broken.icount = 9;
     let b = broken.socket(short);
-    say(b"socket of a broken record", b.answer);
+    say(rt, "socket of a broken record", b.answer)?;
     let h = a.host;
     let c = h.socket(short);
-    say(b"socket with a short store", c.answer);
+    say(rt, "socket with a short store", c.answer)?;
     let d = h.getsockname(store, Descriptor(16));
-    say(b"getsockname 16", d.answer);
+    say(rt, "getsockname 16", d.answer)?;
     let e = h.bind(store, Descriptor(3), 1, Port(1));
-    say(b"bind a closed one", e.answer);
-    waits(h, store, buffer);
+    say(rt, "bind a closed one", e.answer)?;
+    waits(rt, h, store, buffer)
 }
 
-fn waits(open: Host, store: &mut [u8; 40960], buffer: &mut [u8; 512]) {
+fn waits(
+    rt: &impl Print,
+    open: Host,
+    store: &mut [u8; 40960],
+    buffer: &mut [u8; 512],
+) -> io::Result<()> {
     let f = open.socket(store);
     let g = f.host.recvfrom(store, Descriptor(0), false, buffer);
-    say(b"recvfrom waits", g.answer);
+    say(rt, "recvfrom waits", g.answer)?;
     let i = g.host.close(store, Descriptor(9));
-    say(b"close while waiting", i.answer);
+    say(rt, "close while waiting", i.answer)?;
     let j = g.host.interrupt(store);
-    say(b"interrupt", j.answer);
+    say(rt, "interrupt", j.answer)?;
     let k = j.host.interrupt(store);
-    say(b"interrupt again", k.answer);
+    say(rt, "interrupt again", k.answer)?;
     let l = j.host.exit(store);
-    say(b"exit", l.answer);
+    say(rt, "exit", l.answer)?;
     let m = l.host.recvfrom(store, Descriptor(0), true, buffer);
-    say(b"recvfrom after exit", m.answer);
+    say(rt, "recvfrom after exit", m.answer)
 }
 
 // ---- socket, bind and connect: 15, 6, 8, 7, 9, 13, 12, and which of two comes first
 
-fn names(store: &mut [u8; 40960]) {
+fn names(rt: &impl Print, store: &mut [u8; 40960]) -> io::Result<()> {
     let a = Host::opening(one_interface(), 1, store);
     let b = a.host.socket(store);
-    say(b"socket", b.answer);
+    say(rt, "socket", b.answer)?;
     let c = b.host.bind(store, Descriptor(0), 0, Port(1023));
-    say(b"bind to 1023", c.answer);
+    say(rt, "bind to 1023", c.answer)?;
     let d = b.host.bind(store, Descriptor(0), 167903238, Port(1023));
-    say(b"bind to a strange address and 1023", d.answer);
+    say(rt, "bind to a strange address and 1023", d.answer)?;
     let e = b.host.bind(store, Descriptor(0), 0, Port(1024));
-    say(b"bind to 1024", e.answer);
+    say(rt, "bind to 1024", e.answer)?;
     let f = e.host.bind(store, Descriptor(0), 167903238, Port(1));
-    say(b"bind a bound one to a strange address", f.answer);
-    taken_names(e.host, store);
+    say(rt, "bind a bound one to a strange address", f.answer)?;
+    taken_names(rt, e.host, store)
 }
 
-fn taken_names(bound: Host, store: &mut [u8; 40960]) {
+fn taken_names(rt: &impl Print, bound: Host, store: &mut [u8; 40960]) -> io::Result<()> {
     let g = bound.socket(store);
     let h = g.host.bind(store, Descriptor(1), 167903237, Port(1024));
-    say(b"bind to what is in use", h.answer);
+    say(rt, "bind to what is in use", h.answer)?;
     let i = g.host.bind(store, Descriptor(1), 167903238, Port(1024));
-    say(b"bind to a strange address in use", i.answer);
+    say(rt, "bind to a strange address in use", i.answer)?;
     let j = g.host.bind(store, Descriptor(1), 0, Port(0));
-    say(b"bind to port 0", j.answer);
+    say(rt, "bind to port 0", j.answer)?;
     let k = j.host.getsockname(store, Descriptor(1));
-    say(b"getsockname after autobind", k.answer);
+    say(rt, "getsockname after autobind", k.answer)?;
     let l = j.host.getpeername(store, Descriptor(1));
-    say(b"getpeername without a peer", l.answer);
-    peers(j.host, store);
+    say(rt, "getpeername without a peer", l.answer)?;
+    peers(rt, j.host, store)
 }
 
-fn peers(bound: Host, store: &mut [u8; 40960]) {
+fn peers(rt: &impl Print, bound: Host, store: &mut [u8; 40960]) -> io::Result<()> {
     let m = bound.connect(store, Descriptor(1), 0, Port(9));
-    say(b"connect to 0", m.answer);
+    say(rt, "connect to 0", m.answer)?;
     let n = bound.connect(store, Descriptor(1), 167903241, Port(0));
-    say(b"connect", n.answer);
+    say(rt, "connect", n.answer)?;
     let o = n.host.getpeername(store, Descriptor(1));
-    say(b"getpeername", o.answer);
+    say(rt, "getpeername", o.answer)?;
     let p = n.host.disconnect(store, Descriptor(1));
-    say(b"disconnect", p.answer);
+    say(rt, "disconnect", p.answer)?;
     let q = p.host.getsockname(store, Descriptor(1));
-    say(b"getsockname after disconnect", q.answer);
+    say(rt, "getsockname after disconnect", q.answer)
 }
 
 fn with_all_open(host: Host, store: &[u8; 40960]) -> Host {
@@ -162,9 +158,9 @@ fn with_all_open(host: Host, store: &[u8; 40960]) -> Host {
     h
 }
 
-fn all_open(store: &mut [u8; 40960]) {
+fn all_open(rt: &impl Print, store: &mut [u8; 40960]) -> io::Result<()> {
     let a = Host::opening(one_interface(), 0, store);
-    say(b"open with an interface that is not counted", a.answer);
+    say(rt, "open with an interface that is not counted", a.answer)?;
     let none = [
         interface(0, 0, 0),
         interface(0, 0, 0),
@@ -172,46 +168,46 @@ fn all_open(store: &mut [u8; 40960]) {
         interface(0, 0, 0),
     ];
     let b = Host::opening(none, 0, store);
-    say(b"open with no interface", b.answer);
+    say(rt, "open with no interface", b.answer)?;
     let h = with_all_open(b.host, store);
     let c = h.socket(store);
-    say(b"socket where 16 are open", c.answer);
+    say(rt, "socket where 16 are open", c.answer)?;
     let d = h.connect(store, Descriptor(2), 167903241, Port(9));
-    say(b"connect with no route", d.answer);
+    say(rt, "connect with no route", d.answer)?;
     let e = h.connect(store, Descriptor(2), 2130706434, Port(9));
-    say(b"connect to loopback", e.answer);
+    say(rt, "connect to loopback", e.answer)?;
     let f = e.host.getsockname(store, Descriptor(2));
-    say(b"getsockname after it", f.answer);
+    say(rt, "getsockname after it", f.answer)
 }
 
 // ---- options
 
-fn options(store: &mut [u8; 40960]) {
+fn options(rt: &impl Print, store: &mut [u8; 40960]) -> io::Result<()> {
     let a = Host::opening(one_interface(), 1, store);
     let b = a.host.socket(store);
     let c = b.host.setopt(store, Descriptor(0), 3, true);
-    say(b"setopt 3", c.answer);
+    say(rt, "setopt 3", c.answer)?;
     let d = b.host.setopt(store, Descriptor(0), 2, true);
-    say(b"setopt reuse", d.answer);
+    say(rt, "setopt reuse", d.answer)?;
     let e = d.host.getopt(store, Descriptor(0), 2);
-    say(b"getopt reuse", e.answer);
+    say(rt, "getopt reuse", e.answer)?;
     let f = d.host.getopt(store, Descriptor(0), 0);
-    say(b"getopt 0", f.answer);
+    say(rt, "getopt 0", f.answer)?;
     let g = d.host.bind(store, Descriptor(0), 0, Port(7000));
     let h = g.host.setopt(store, Descriptor(0), 2, false);
-    say(b"setopt reuse once bound", h.answer);
-    errors_and_polls(g.host, store);
+    say(rt, "setopt reuse once bound", h.answer)?;
+    errors_and_polls(rt, g.host, store)
 }
 
-fn errors_and_polls(bound: Host, store: &mut [u8; 40960]) {
+fn errors_and_polls(rt: &impl Print, bound: Host, store: &mut [u8; 40960]) -> io::Result<()> {
     let i = bound.setopt(store, Descriptor(0), 1, true);
-    say(b"setopt bsdcompat once bound", i.answer);
+    say(rt, "setopt bsdcompat once bound", i.answer)?;
     let j = i.host.geterr(store, Descriptor(0));
-    say(b"geterr", j.answer);
+    say(rt, "geterr", j.answer)?;
     let k = i.host.poll(store, 1, 1);
-    say(b"poll 1 1", k.answer);
+    say(rt, "poll 1 1", k.answer)?;
     let l = i.host.poll(store, 2, 1);
-    say(b"poll 2 1", l.answer);
+    say(rt, "poll 2 1", l.answer)
 }
 
 // ---- sendto: 6, 11, 12, 13, 14; 10 from a pending error, which it clears
@@ -226,29 +222,34 @@ fn with_more_queued(host: Host, store: &mut [u8; 40960], payload: &[u8; 512]) ->
     h
 }
 
-fn sending(store: &mut [u8; 40960], full: &[u8; 512], over: &[u8; 513]) {
+fn sending(
+    rt: &impl Print,
+    store: &mut [u8; 40960],
+    full: &[u8; 512],
+    over: &[u8; 513],
+) -> io::Result<()> {
     let a = Host::opening(one_interface(), 1, store);
     let b = a.host.socket(store);
     let c = b
         .host
         .sendto(store, Descriptor(0), 167903241, Port(0), over);
-    say(b"sendto half an address, 513 bytes", c.answer);
+    say(rt, "sendto half an address, 513 bytes", c.answer)?;
     let d = b
         .host
         .sendto(store, Descriptor(0), 167903241, Port(6000), over);
-    say(b"sendto 513 bytes", d.answer);
+    say(rt, "sendto 513 bytes", d.answer)?;
     let e = b.host.sendto(store, Descriptor(0), 0, Port(0), full);
-    say(b"sendto nobody", e.answer);
+    say(rt, "sendto nobody", e.answer)?;
     let f = b
         .host
         .sendto(store, Descriptor(0), 167903241, Port(6000), full);
-    say(b"sendto 512 bytes", f.answer);
+    say(rt, "sendto 512 bytes", f.answer)?;
     let g = f.host.getsockname(store, Descriptor(0));
-    say(b"getsockname after it", g.answer);
+    say(rt, "getsockname after it", g.answer)?;
     let h = with_more_queued(f.host, store, full);
     let j = h.sendto(store, Descriptor(0), 167903241, Port(6000), full);
-    say(b"sendto where 16 are queued", j.answer);
-    pending(f.host, store, over);
+    say(rt, "sendto where 16 are queued", j.answer)?;
+    pending(rt, f.host, store, over)
 }
 
 // A record with an error pending on socket 0.
@@ -260,11 +261,16 @@ fn with_error(host: Host) -> Host {
     h
 }
 
-fn pending(sent: Host, store: &mut [u8; 40960], over: &[u8; 513]) {
+fn pending(
+    rt: &impl Print,
+    sent: Host,
+    store: &mut [u8; 40960],
+    over: &[u8; 513],
+) -> io::Result<()> {
     let k = with_error(sent).sendto(store, Descriptor(0), 167903241, Port(0), over);
-    say(b"sendto with an error pending", k.answer);
+    say(rt, "sendto with an error pending", k.answer)?;
     let l = k.host.geterr(store, Descriptor(0));
-    say(b"geterr after it", l.answer);
+    say(rt, "geterr after it", l.answer)
 }
 
 // ---- recvfrom and resume: 16 with the length needed, a read, 14, 18, 10; 6 where nothing waits
@@ -281,36 +287,47 @@ fn with_queued(host: Host) -> Host {
     h
 }
 
-fn reading(store: &mut [u8; 40960], small: &mut [u8; 2], buffer: &mut [u8; 512]) {
+fn reading(
+    rt: &impl Print,
+    store: &mut [u8; 40960],
+    small: &mut [u8; 2],
+    buffer: &mut [u8; 512],
+) -> io::Result<()> {
     let a = Host::opening(one_interface(), 1, store);
     let b = a.host.socket(store);
     let holding = with_queued(b.host);
     let c = holding.recvfrom(store, Descriptor(0), true, small);
-    say(b"recvfrom into 2 bytes", c.answer);
+    say(rt, "recvfrom into 2 bytes", c.answer)?;
     let d = holding.recvfrom(store, Descriptor(0), true, buffer);
-    say(b"recvfrom", d.answer);
+    say(rt, "recvfrom", d.answer)?;
     let e = d.host.recvfrom(store, Descriptor(0), true, buffer);
-    say(b"recvfrom with nothing queued", e.answer);
+    say(rt, "recvfrom with nothing queued", e.answer)?;
     let f = d.host.getsockname(store, Descriptor(0));
-    say(b"getsockname after it", f.answer);
+    say(rt, "getsockname after it", f.answer)?;
     let g = d.host.recvfrom(store, Descriptor(0), false, buffer);
-    waiting(g.host, store, small, buffer);
+    waiting(rt, g.host, store, small, buffer)
 }
 
-fn waiting(host: Host, store: &mut [u8; 40960], small: &mut [u8; 2], buffer: &mut [u8; 512]) {
+fn waiting(
+    rt: &impl Print,
+    host: Host,
+    store: &mut [u8; 40960],
+    small: &mut [u8; 2],
+    buffer: &mut [u8; 512],
+) -> io::Result<()> {
     let a = host.resume(store, buffer);
-    say(b"resume with nothing queued", a.answer);
+    say(rt, "resume with nothing queued", a.answer)?;
     let b = with_queued(host).resume(store, small);
-    say(b"resume into 2 bytes", b.answer);
+    say(rt, "resume into 2 bytes", b.answer)?;
     let c = with_queued(host).resume(store, buffer);
-    say(b"resume", c.answer);
+    say(rt, "resume", c.answer)?;
     let d = with_error(host).resume(store, small);
-    say(b"resume with an error pending", d.answer);
+    say(rt, "resume with an error pending", d.answer)?;
     let e = d.host.resume(store, buffer);
-    say(b"resume once it runs", e.answer);
+    say(rt, "resume once it runs", e.answer)
 }
 
-fn main() {
+fn main(rt: HostRuntime) -> io::Result<()> {
     let mut store = [0u8; 40960];
     let mut short = [0u8; 40959];
     let mut long = [0u8; 40961];
@@ -318,11 +335,11 @@ fn main() {
     let mut small = [0u8; 2];
     let full = [7u8; 512];
     let over = [7u8; 513];
-    openings(&mut store, &mut short, &mut long);
-    entries(&mut store, &short, &mut buffer);
-    names(&mut store);
-    all_open(&mut store);
-    options(&mut store);
-    sending(&mut store, &full, &over);
-    reading(&mut store, &mut small, &mut buffer);
+    openings(&rt, &mut store, &mut short, &mut long)?;
+    entries(&rt, &mut store, &short, &mut buffer)?;
+    names(&rt, &mut store)?;
+    all_open(&rt, &mut store)?;
+    options(&rt, &mut store)?;
+    sending(&rt, &mut store, &full, &over)?;
+    reading(&rt, &mut store, &mut small, &mut buffer)
 }
