@@ -9,7 +9,7 @@ fn main() {
     let library = folder.join("libudphost.a");
     if !library.is_file() {
         panic!(
-            "there is no {}: make it with `rt staticlib udphost`, or name its folder in UDPHOST_LIB",
+            "there is no {}: make it with bindings/library, or name its folder in UDPHOST_LIB",
             library.display()
         );
     }

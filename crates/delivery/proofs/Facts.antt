@@ -2,7 +2,7 @@
 -- Assumes nothing.
 use mathlib.Core.Path.{◌≡◌, refl, sym, ◌∙◌}
 use mathlib.Core.List.{List, [], ◌∷◌, ◌++◌, append-nil}
-use mathlib.Core.Logic.{◌≢◌, ◌⊎◌, ⊎_elim}
+use mathlib.Core.Logic.{◌≢◌, ⊎_elim}
 use mathlib.Core.Bool.{Bool, true, false, cond}
 use Prim.Native.Nat.{ℕ, ◌+◌, ◌*◌, ◌<◌, ◌≤◌}
 use native.Mathlib.Omega.{arith}

@@ -5,7 +5,6 @@ use mathlib.Core.List.{List, [], ◌∷◌, ◌++◌}
 use mathlib.Core.Bool.{true, false}
 use Prim.Native.Nat.{ℕ, ◌<◌}
 use lib.ListN.{length}
-use Rattle.queues.specs.Held.{held}
 use Rattle.history.specs.Sound.{Sound}
 use Rattle.history.specs.Frame.{Named, Untouched}
 use Rattle.history.specs.Order.{holds, read_by, delivered_by, restarts}

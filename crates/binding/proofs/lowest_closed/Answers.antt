@@ -1,11 +1,8 @@
-use Rattle.std.proofs.Common.{rules, ◌≡◌, ◌≤◌, ℕ, ◌+◌, ◌-◌, ◌*◌, ◌<◌, length, ◌/◌, ◌%◌, Bool, true, false, nat_eq, nat_lt, List, [], ◌∷◌, ◌++◌, slice_index_or, slice_set, bit_and, bit_or, Fits, w8, w32, w64, Bor, MutBor}
-use Rattle.state.specs.Places.{no_socket}
-use Rattle.binding.specs.Sockets.{new_socket, closed_at, lowest_closed, with_local, with_remote, with_error, with_options, port_for}
+use Rattle.std.proofs.Common.{rules}
+use Rattle.binding.specs.Sockets.{lowest_closed}
 use Rattle.binding.proofs.lowest_closed.Goals as goal
 use mathlib.Core.Path.{sym}
-use Rattle.laws.proofs.Below.{Seeking, seek_start, seek_on, seek_found, seek_none}
-use Rattle.state.specs.Places.{socket_in}
-
+use Rattle.laws.proofs.Below.{seek_on, seek_found, seek_none}
 
 -- src/lib.rt:57:13
 pub returns-then-is_closed : goal.returns-then-is_closed

@@ -1,15 +1,11 @@
-use Rattle.std.proofs.Common.{rules, ◌≡◌, ◌≤◌, length, ℕ, ◌+◌, ◌-◌, ◌*◌, ◌<◌, ◌/◌, ◌%◌, Bool, true, false, nat_eq, nat_lt, List, [], ◌∷◌, ◌++◌, slice_index_or, slice_set, bit_and, bit_or, Fits, w8, w32, w64, Bor, MutBor}
-use Rattle.queues.specs.Moves.{carried, Carriable}
-use Rattle.outqueue.specs.Moves.{item_at, Some}
-use Rattle.delivery.specs.Landing.{delivered, delivering, queued_notice, noticing, landed, settled, arriving, looping}
-use Rattle.delivery.specs.Hearing.{turned, listens, hearing}
+use Rattle.std.proofs.Common.{◌<◌}
+use Rattle.delivery.specs.Landing.{delivering}
 use Rattle.delivery.proofs.deliver.Goals as goal
 use mathlib.Core.Path.{ap}
 use native.Mathlib.Omega.{arith}
 use borrow.Author.Tests.{eq-eqb, ne_eqb, lt-ltb, le-ltb}
 use Rattle.matching.proofs.Winner.{winner_small}
 use Rattle.queues.specs.Moves.{Left}
-
 
 -- src/lib.rt:63:9
 pub returns-then-b-eq0 : goal.returns-then-b-eq0

@@ -1,11 +1,7 @@
-use Rattle.std.proofs.Common.{rules, ◌≡◌, [], ◌-◌, ◌≤◌, ◌<◌, length, ℕ, ◌+◌, ◌*◌, ◌/◌, ◌%◌, Bool, true, false, nat_eq, nat_lt, List, ◌∷◌, ◌++◌, slice_index_or, slice_set, bit_and, bit_or, Fits, w8, w32, w64, Bor, MutBor}
-use Rattle.laws.specs.Places.{popped}
-use Rattle.state.specs.Places.{no_item}
-use Rattle.outqueue.specs.Moves.{source_of, destination_of, datagram_of, notice_of, no_items, with_item, without_first, left, added, removed, Room, Some}
-use Rattle.outqueue.specs.Fits.{empty_item, item_ok_of, item_fits, out_ok}
+use Rattle.std.proofs.Common.{rules}
 use Rattle.outqueue.proofs.shifted.Goals as goal
 use native.Mathlib.Omega.{arith}
-use Rattle.laws.proofs.Filling.{Popping, pop_start, pop_turn, pop_done}
+use Rattle.laws.proofs.Filling.{pop_start, pop_turn, pop_done}
 
 -- src/lib.rt:112:5
 pub loop-j-init : goal.loop-j-init

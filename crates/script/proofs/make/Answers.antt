@@ -1,13 +1,10 @@
-use Rattle.std.proofs.Common.{rules, ◌≡◌, ◌+◌, ◌≤◌, length, true, ℕ, ◌-◌, ◌*◌, ◌<◌, ◌/◌, ◌%◌, Bool, false, nat_eq, nat_lt, List, [], ◌∷◌, ◌++◌, slice_index_or, slice_set, bit_and, bit_or, Fits, w8, w32, w64, Bor, MutBor}
-use Rattle.script.specs.Fields.{word, long, fields_at, flow_in}
-use Rattle.script.specs.Steps.{made, making}
+use Rattle.std.proofs.Common.{rules}
 use Rattle.script.proofs.make.Goals as goal
 use mathlib.Core.Path.{ap}
 use Rattle.host.specs.Answers.{Outcome}
 use Rattle.history.specs.Steps.{after}
 use Rattle.script.specs.Steps.{doing, making_of}
 use Rattle.script.proofs.Arms.{arm, unknown, no_arm}
-
 
 -- src/lib.rt:108:1
 pub returns-in-1 : goal.returns-in-1

@@ -1,11 +1,8 @@
-use Rattle.std.proofs.Common.{rules, ◌≡◌, ◌+◌, ◌*◌, ◌≤◌, ◌<◌, length, ℕ, ◌-◌, ◌/◌, ◌%◌, Bool, true, false, nat_eq, nat_lt, List, [], ◌∷◌, ◌++◌, slice_index_or, slice_set, bit_and, bit_or, Fits, w8, w32, w64, Bor, MutBor}
-use Rattle.laws.specs.Places.{part, splice}
-use Rattle.store.specs.Store.{zeros, slot_written, slot_zeroed, slots_popped}
+use Rattle.std.proofs.Common.{rules}
 use Rattle.store.proofs.clear.Goals as goal
 use mathlib.Core.Path.{refl, sym}
 use Rattle.laws.proofs.Splice.{length_copies, get_or_copies}
-use Rattle.laws.proofs.Filling.{Filling, fill_start, fill_turn, fill_done}
-
+use Rattle.laws.proofs.Filling.{fill_start, fill_turn, fill_done}
 
 -- src/lib.rt:28:5
 pub loop-j-init : goal.loop-j-init

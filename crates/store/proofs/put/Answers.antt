@@ -1,10 +1,7 @@
-use Rattle.std.proofs.Common.{rules, ◌≡◌, ◌+◌, ◌*◌, ◌≤◌, ◌<◌, length, ℕ, ◌-◌, ◌/◌, ◌%◌, Bool, true, false, nat_eq, nat_lt, List, [], ◌∷◌, ◌++◌, slice_index_or, slice_set, bit_and, bit_or, Fits, w8, w32, w64, Bor, MutBor}
-use Rattle.laws.specs.Places.{part, splice}
-use Rattle.store.specs.Store.{zeros, slot_written, slot_zeroed, slots_popped}
+use Rattle.std.proofs.Common.{rules}
 use Rattle.store.proofs.put.Goals as goal
 use mathlib.Core.Path.{refl}
-use Rattle.laws.proofs.Filling.{Filling, fill_start, fill_turn, fill_done}
-
+use Rattle.laws.proofs.Filling.{fill_turn, fill_done}
 
 -- src/lib.rt:16:5
 pub loop-j-preserved : goal.loop-j-preserved

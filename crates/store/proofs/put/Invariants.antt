@@ -1,11 +1,6 @@
-use Rattle.std.proofs.Common.{length, ◌-◌, ◌≡◌, ◌+◌, ◌*◌, ◌≤◌, ◌<◌, ℕ}
-use Rattle.laws.specs.Places.{part, splice}
-use Rattle.store.specs.Store.{zeros, slot_written, slot_zeroed, slots_popped}
+use Rattle.std.proofs.Common.{length, ◌-◌}
 use Rattle.store.proofs.put.Given as goal
-use mathlib.Core.Path.{refl}
-use borrow.Author.Rules.{rules}
-use Rattle.laws.proofs.Filling.{Filling, fill_start, fill_turn, fill_done}
-
+use Rattle.laws.proofs.Filling.{Filling}
 
 abbrev pub invariant-loop-j : goal.invariant-loop-j
 invariant-loop-j l = Filling 0 l.initial.s l.at l.src (length l.src) l.j l.s

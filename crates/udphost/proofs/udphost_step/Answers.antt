@@ -1,11 +1,6 @@
-use Rattle.std.proofs.Common.{rules, ◌≡◌, [], ℕ, ◌+◌, ◌-◌, ◌*◌, ◌<◌, ◌≤◌, length, ◌/◌, ◌%◌, Bool, true, false, nat_eq, nat_lt, List, ◌∷◌, ◌++◌, slice_index_or, slice_set, bit_and, bit_or, Fits, w8, w32, w64, Bor, MutBor}
-use Rattle.lent.specs.List.{opened_list}
-use Rattle.udphost.specs.Crossing.{thread_known, thread_of, thread_number, thread_awaited, host_of, record_of}
-use Rattle.udphost.specs.Requests.{reply_of, crossing, crossed_of, stepping}
 use Rattle.udphost.proofs.udphost_step.Goals as goal
 use mathlib.Core.Path.{sym, ◌∙◌}
 use Rattle.udphost.proofs.Boundary.{step_known, step_unknown}
-
 
 -- src/lib.rt:165:9
 pub returns-then-is_known : goal.returns-then-is_known

@@ -1,14 +1,10 @@
-use Rattle.std.proofs.Common.{rules, ◌≡◌, [], ◌||◌, ℕ, ◌+◌, ◌-◌, ◌*◌, ◌<◌, ◌≤◌, length, ◌/◌, ◌%◌, Bool, true, false, nat_eq, nat_lt, List, ◌∷◌, ◌++◌, slice_index_or, slice_set, bit_and, bit_or, Fits, w8, w32, w64, Bor, MutBor}
-use Rattle.net.specs.Address.{stray}
-use Rattle.host.specs.Answers.{outcome}
-use Rattle.answers.specs.Tables.{first}
-use Rattle.host.specs.Arrivals.{datagram_rows, arrived, notice_rows, noticed}
+use Rattle.std.proofs.Common.{[]}
+use Rattle.host.specs.Arrivals.{arrived}
 use Rattle.host.proofs.Host.datagram.Goals as goal
 use mathlib.Core.Path.{refl, ap}
 use Rattle.delivery.specs.Landing.{Landed}
 use Rattle.host.specs.Arrivals.{landed_in}
 use Rattle.host.proofs.Refusals.{refuses, passes}
-use Rattle.host.proofs.Passed.{arrivable}
 
 -- src/arrivals.rt:45:13
 pub returns-then-n-ne0 : goal.returns-then-n-ne0

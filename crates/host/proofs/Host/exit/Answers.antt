@@ -1,11 +1,8 @@
-use Rattle.std.proofs.Common.{rules, ◌≡◌, [], ℕ, ◌+◌, ◌-◌, ◌*◌, ◌<◌, ◌≤◌, length, ◌/◌, ◌%◌, Bool, true, false, nat_eq, nat_lt, List, ◌∷◌, ◌++◌, slice_index_or, slice_set, bit_and, bit_or, Fits, w8, w32, w64, Bor, MutBor}
-use Rattle.host.specs.Answers.{outcome}
-use Rattle.host.specs.Closing.{closed, exit_host, exited}
+use Rattle.host.specs.Closing.{exited}
 use Rattle.host.proofs.Host.exit.Goals as goal
 use mathlib.Core.Path.{refl, ap}
 use Rattle.queues.specs.Moves.{Left}
 use Rattle.host.proofs.Refusals.{refuses, passes}
-use Rattle.host.proofs.Passed.{entered}
 
 -- src/closing.rt:52:13
 pub returns-then-n-ne0 : goal.returns-then-n-ne0

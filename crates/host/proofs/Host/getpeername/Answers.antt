@@ -1,7 +1,4 @@
-use Rattle.std.proofs.Common.{rules, ◌≡◌, [], ℕ, ◌+◌, ◌-◌, ◌*◌, ◌<◌, ◌≤◌, length, ◌/◌, ◌%◌, Bool, true, false, nat_eq, nat_lt, List, ◌∷◌, ◌++◌, slice_index_or, slice_set, bit_and, bit_or, Fits, w8, w32, w64, Bor, MutBor}
-use Rattle.host.specs.Answers.{outcome}
-use Rattle.answers.specs.Tables.{first}
-use Rattle.host.specs.Naming.{socketed, bind_rows, bound, connected, disconnected, local_given, peer_given}
+use Rattle.host.specs.Naming.{peer_given}
 use Rattle.host.proofs.Host.getpeername.Goals as goal
 use mathlib.Core.Path.{refl}
 use Rattle.host.proofs.Refusals.{refuses, passes}

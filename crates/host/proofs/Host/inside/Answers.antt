@@ -1,14 +1,9 @@
-use Rattle.std.proofs.Common.{rules, ◌≡◌, length, ℕ, ◌+◌, ◌-◌, ◌*◌, ◌<◌, ◌≤◌, ◌/◌, ◌%◌, Bool, true, false, nat_eq, nat_lt, List, [], ◌∷◌, ◌++◌, slice_index_or, slice_set, bit_and, bit_or, Fits, w8, w32, w64, Bor, MutBor}
-use Rattle.outqueue.specs.Moves.{Some}
-use Rattle.host.specs.Answers.{outcome}
-use Rattle.answers.specs.Tables.{first}
-use Rattle.host.specs.Emitting.{out_rows, without_oldest, bytes_without, handled_inside, leaving, stepped, Leaving}
+use Rattle.host.specs.Emitting.{handled_inside}
 use Rattle.host.proofs.Host.inside.Goals as goal
 use mathlib.Core.Path.{ap}
 use borrow.Author.Tests.{eq-eqb, ne_eqb}
 use Rattle.delivery.specs.Landing.{Landed}
 use Rattle.host.specs.Arrivals.{landed_in}
-use Rattle.host.proofs.Passed.{oldest_small}
 
 -- src/emitting.rt:43:13
 pub returns-then-x-eq0 : goal.returns-then-x-eq0

@@ -1,9 +1,5 @@
-use Rattle.std.proofs.Common.{rules, ◌≡◌, [], ℕ, ◌+◌, ◌-◌, ◌*◌, ◌<◌, ◌≤◌, length, ◌/◌, ◌%◌, Bool, true, false, nat_eq, nat_lt, List, ◌∷◌, ◌++◌, slice_index_or, slice_set, bit_and, bit_or, Fits, w8, w32, w64, Bor, MutBor}
-use Rattle.host.specs.Answers.{outcome}
-use Rattle.host.specs.Opening.{empty_host, ended_host, opened}
 use Rattle.host.proofs.Host.opening.Goals as goal
-use native.Mathlib.Omega.{arith}
-use Rattle.host.proofs.Passed.{opening_room, opening_refused, opening_done}
+use Rattle.host.proofs.Passed.{opening_refused, opening_done}
 
 -- src/opening.rt:42:13
 pub returns-then-n-ne0 : goal.returns-then-n-ne0

@@ -1,8 +1,4 @@
-use Rattle.std.proofs.Common.{rules, ◌≡◌, length, ℕ, ◌+◌, ◌-◌, ◌*◌, ◌<◌, ◌≤◌, ◌/◌, ◌%◌, Bool, true, false, nat_eq, nat_lt, List, [], ◌∷◌, ◌++◌, slice_index_or, slice_set, bit_and, bit_or, Fits, w8, w32, w64, Bor, MutBor}
-use Rattle.outqueue.specs.Moves.{Some}
-use Rattle.host.specs.Answers.{outcome}
-use Rattle.answers.specs.Tables.{first}
-use Rattle.host.specs.Emitting.{out_rows, without_oldest, bytes_without, handled_inside, leaving, stepped, Leaving}
+use Rattle.host.specs.Emitting.{stepped}
 use Rattle.host.proofs.Host.out_step.Goals as goal
 use mathlib.Core.Path.{refl}
 use Rattle.host.proofs.Refusals.{refuses, passes}

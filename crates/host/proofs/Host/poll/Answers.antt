@@ -1,6 +1,4 @@
-use Rattle.std.proofs.Common.{rules, ◌≡◌, [], cond, ◌&&◌, ◌||◌, not, ◌<◌, ◌^◌, eqb, ℕ, ◌+◌, ◌-◌, ◌*◌, ◌≤◌, length, ◌/◌, ◌%◌, Bool, true, false, nat_lt, List, ◌∷◌, ◌++◌, slice_index_or, slice_set, bit_and, bit_or, Fits, w8, w32, w64, Bor, MutBor}
-use Rattle.host.specs.Answers.{outcome}
-use Rattle.host.specs.Polling.{bit, all_open, ready_by, writable_at, ready_below, poll_refusal, polled_of}
+use Rattle.host.specs.Polling.{polled_of}
 use Rattle.host.proofs.Host.poll.Goals as goal
 use mathlib.Core.Path.{refl}
 use Rattle.host.proofs.Refusals.{refuses, passes}

@@ -1,13 +1,8 @@
-use Rattle.std.proofs.Common.{rules, ◌≡◌, [], length, ℕ, ◌+◌, ◌-◌, ◌*◌, ◌<◌, ◌≤◌, ◌/◌, ◌%◌, Bool, true, false, nat_eq, nat_lt, List, ◌∷◌, ◌++◌, slice_index_or, slice_set, bit_and, bit_or, Fits, w8, w32, w64, Bor, MutBor}
-use Rattle.host.specs.Answers.{outcome}
-use Rattle.answers.specs.Tables.{first}
-use Rattle.host.specs.Entered.{Ready}
-use Rattle.host.specs.Sending.{half_given, both_absent, target, target_port, send_rows, flow_of, queued_out, sent}
+use Rattle.host.specs.Sending.{queued_out}
 use Rattle.host.proofs.Host.queue_out.Goals as goal
 use mathlib.Core.Path.{refl, ap}
 use Rattle.outqueue.specs.Moves.{Left}
 use Rattle.host.proofs.Refusals.{refuses, passes}
-use Rattle.host.proofs.Passed.{sendable}
 
 -- src/sending.rt:91:13
 pub returns-then-n-ne0 : goal.returns-then-n-ne0

@@ -1,7 +1,4 @@
-use Rattle.std.proofs.Common.{rules, ◌≡◌, [], ◌<◌, length, ℕ, ◌+◌, ◌-◌, ◌*◌, ◌≤◌, ◌/◌, ◌%◌, Bool, true, false, nat_eq, nat_lt, List, ◌∷◌, ◌++◌, slice_index_or, slice_set, bit_and, bit_or, Fits, w8, w32, w64, Bor, MutBor}
-use Rattle.host.specs.Answers.{outcome}
-use Rattle.host.specs.Entered.{Ready, Holding}
-use Rattle.host.specs.Reading.{oldest_taken, waiting_on, received, awaited_by, resume_refusal, resumed_on, resumed, interrupted}
+use Rattle.host.specs.Reading.{resumed_on}
 use Rattle.host.proofs.Host.resume_on.Goals as goal
 use borrow.Author.Tests.{eq-eqb, ne_eqb}
 

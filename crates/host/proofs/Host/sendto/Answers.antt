@@ -1,8 +1,4 @@
-use Rattle.std.proofs.Common.{rules, ◌≡◌, [], length, ℕ, ◌+◌, ◌-◌, ◌*◌, ◌<◌, ◌≤◌, ◌/◌, ◌%◌, Bool, true, false, nat_eq, nat_lt, List, ◌∷◌, ◌++◌, slice_index_or, slice_set, bit_and, bit_or, Fits, w8, w32, w64, Bor, MutBor}
-use Rattle.host.specs.Answers.{outcome}
-use Rattle.answers.specs.Tables.{first}
-use Rattle.host.specs.Entered.{Ready}
-use Rattle.host.specs.Sending.{half_given, both_absent, target, target_port, send_rows, flow_of, queued_out, sent}
+use Rattle.host.specs.Sending.{sent}
 use Rattle.host.proofs.Host.sendto.Goals as goal
 use mathlib.Core.Path.{refl}
 use borrow.Author.Tests.{eq-eqb, ne_eqb}

@@ -1,9 +1,7 @@
-use Rattle.std.proofs.Common.{rules, ◌≡◌, [], cond, ◌&&◌, ◌||◌, not, ◌<◌, ◌^◌, eqb, ℕ, ◌+◌, ◌-◌, ◌*◌, ◌≤◌, length, ◌/◌, ◌%◌, Bool, true, false, nat_lt, List, ◌∷◌, ◌++◌, slice_index_or, slice_set, bit_and, bit_or, Fits, w8, w32, w64, Bor, MutBor}
-use Rattle.host.specs.Answers.{outcome}
-use Rattle.host.specs.Polling.{bit, all_open, ready_by, writable_at, ready_below, poll_refusal, polled_of}
+use Rattle.std.proofs.Common.{rules}
+use Rattle.host.specs.Polling.{all_open}
 use Rattle.host.proofs.polling.are_open.Goals as goal
-use Rattle.laws.proofs.Below.{Collected, all_start, all_turn, all_done}
-use Rattle.host.specs.Polling.{names_open}
+use Rattle.laws.proofs.Below.{all_start, all_turn, all_done}
 
 -- src/polling.rt:43:5
 pub loop-k-init : goal.loop-k-init

@@ -1,9 +1,6 @@
-use Rattle.std.proofs.Common.{◌≡◌, [], cond, ◌&&◌, ◌||◌, not, ◌<◌, ◌^◌, eqb, ℕ, ◌+◌, ◌-◌, ◌*◌, ◌≤◌, length}
-use Rattle.host.specs.Answers.{outcome}
-use Rattle.host.specs.Polling.{bit, all_open, ready_by, writable_at, ready_below, poll_refusal, polled_of}
+use Rattle.std.proofs.Common.{◌≤◌}
 use Rattle.host.proofs.polling.are_open.Given as goal
-use borrow.Author.Rules.{rules}
-use Rattle.laws.proofs.Below.{Collected, all_start, all_turn, all_done}
+use Rattle.laws.proofs.Below.{Collected}
 use mathlib.Core.Bool.{true}
 use Rattle.host.specs.Polling.{names_open}
 

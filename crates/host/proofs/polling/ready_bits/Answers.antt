@@ -1,8 +1,6 @@
-use Rattle.std.proofs.Common.{rules, ◌≡◌, [], cond, ◌&&◌, ◌||◌, not, ◌<◌, ◌^◌, eqb, ℕ, ◌+◌, ◌-◌, ◌*◌, ◌≤◌, length, ◌/◌, ◌%◌, Bool, true, false, nat_lt, List, ◌∷◌, ◌++◌, slice_index_or, slice_set, bit_and, bit_or, Fits, w8, w32, w64, Bor, MutBor}
-use Rattle.host.specs.Answers.{outcome}
-use Rattle.host.specs.Polling.{bit, all_open, ready_by, writable_at, ready_below, poll_refusal, polled_of}
+use Rattle.std.proofs.Common.{rules}
 use Rattle.host.proofs.polling.ready_bits.Goals as goal
-use Rattle.host.proofs.Bits.{Gathered, ready_start, ready_turn, ready_done, ready_fits}
+use Rattle.host.proofs.Bits.{ready_start, ready_turn, ready_fits}
 
 -- src/polling.rt:62:5
 pub loop-k-init : goal.loop-k-init

@@ -1,9 +1,9 @@
-use Rattle.std.proofs.Common.{rules, ◌≡◌, ℕ, ◌+◌, ◌-◌, ◌*◌, ◌<◌, ◌≤◌, length, ◌/◌, ◌%◌, Bool, true, false, nat_eq, nat_lt, List, [], ◌∷◌, ◌++◌, slice_index_or, slice_set, bit_and, bit_or, Fits, w8, w32, w64, Bor, MutBor}
-use Rattle.matching.specs.Ports.{takes, leaves, in_use, lacks_port, port_free, auto_port}
+use Rattle.std.proofs.Common.{rules, ◌≡◌, ◌+◌}
+use Rattle.matching.specs.Ports.{auto_port}
 use Rattle.matching.proofs.ports.autobind.Goals as goal
 use mathlib.Core.Path.{sym, ◌∙◌}
 use native.Mathlib.Omega.{arith}
-use Rattle.laws.proofs.Below.{Seeking, seek_start, seek_on, seek_found, seek_none}
+use Rattle.laws.proofs.Below.{seek_on, seek_found, seek_none}
 
 -- src/ports.rt:58:13
 pub returns-then-is_port_free : goal.returns-then-is_port_free

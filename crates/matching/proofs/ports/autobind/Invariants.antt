@@ -1,10 +1,7 @@
-use Rattle.std.proofs.Common.{◌-◌, ◌≡◌, ℕ, ◌+◌, ◌*◌, ◌<◌, ◌≤◌, length}
-use Rattle.matching.specs.Ports.{takes, leaves, in_use, lacks_port, port_free, auto_port}
+use Rattle.std.proofs.Common.{◌-◌}
+use Rattle.matching.specs.Ports.{port_free}
 use Rattle.matching.proofs.ports.autobind.Given as goal
-use mathlib.Core.Path.{sym, ◌∙◌}
-use native.Mathlib.Omega.{arith}
-use borrow.Author.Rules.{rules}
-use Rattle.laws.proofs.Below.{Seeking, seek_start, seek_on, seek_found, seek_none}
+use Rattle.laws.proofs.Below.{Seeking}
 
 abbrev pub invariant-loop-p : goal.invariant-loop-p
 invariant-loop-p l = Seeking (port_free l.sockets) 3976 1024 l.p

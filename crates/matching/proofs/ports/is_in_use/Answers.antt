@@ -1,11 +1,9 @@
-use Rattle.std.proofs.Common.{rules, ◌≡◌, ℕ, ◌+◌, ◌-◌, ◌*◌, ◌<◌, ◌≤◌, length, ◌/◌, ◌%◌, Bool, true, false, nat_eq, nat_lt, List, [], ◌∷◌, ◌++◌, slice_index_or, slice_set, bit_and, bit_or, Fits, w8, w32, w64, Bor, MutBor}
-use Rattle.matching.specs.Ports.{takes, leaves, in_use, lacks_port, port_free, auto_port}
+use Rattle.std.proofs.Common.{rules}
+use Rattle.matching.specs.Ports.{in_use}
 use Rattle.matching.proofs.ports.is_in_use.Goals as goal
-use Rattle.laws.proofs.Below.{Collected, all_start, all_turn, all_done}
+use Rattle.laws.proofs.Below.{all_start, all_turn, all_done}
 use mathlib.Core.Path.{ap}
 use mathlib.Core.Bool.{not}
-use lib.Dec.{eqb}
-use Rattle.state.specs.Places.{socket_in}
 
 -- src/ports.rt:27:5
 pub loop-j-init : goal.loop-j-init

@@ -1,10 +1,8 @@
-use Rattle.std.proofs.Common.{◌≡◌, ℕ, ◌+◌, ◌-◌, ◌*◌, ◌<◌, ◌≤◌, length}
-use Rattle.matching.specs.Ports.{takes, leaves, in_use, lacks_port, port_free, auto_port}
+use Rattle.std.proofs.Common.{◌≤◌}
+use Rattle.matching.specs.Ports.{leaves}
 use Rattle.matching.proofs.ports.is_in_use.Given as goal
-use borrow.Author.Rules.{rules}
-use Rattle.laws.proofs.Below.{Collected, all_start, all_turn, all_done}
-use mathlib.Core.Path.{ap}
-use mathlib.Core.Bool.{true, not}
+use Rattle.laws.proofs.Below.{Collected}
+use mathlib.Core.Bool.{true}
 use lib.Dec.{eqb}
 use Rattle.state.specs.Places.{socket_in}
 

@@ -1,8 +1,7 @@
-use Rattle.std.proofs.Common.{rules, ◌≡◌, ℕ, ◌+◌, ◌-◌, ◌*◌, ◌<◌, ◌≤◌, length, ◌/◌, ◌%◌, Bool, true, false, nat_eq, nat_lt, List, [], ◌∷◌, ◌++◌, slice_index_or, slice_set, bit_and, bit_or, Fits, w8, w32, w64, Bor, MutBor}
-use Rattle.matching.specs.Ports.{takes, leaves, in_use, lacks_port, port_free, auto_port}
+use Rattle.std.proofs.Common.{rules}
+use Rattle.matching.specs.Ports.{port_free}
 use Rattle.matching.proofs.ports.is_port_free.Goals as goal
-use Rattle.laws.proofs.Below.{Collected, all_start, all_turn, all_done}
-use Rattle.state.specs.Places.{socket_in}
+use Rattle.laws.proofs.Below.{all_start, all_turn, all_done}
 
 -- src/ports.rt:45:5
 pub loop-j-init : goal.loop-j-init

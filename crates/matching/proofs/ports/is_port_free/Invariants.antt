@@ -1,8 +1,7 @@
-use Rattle.std.proofs.Common.{◌≡◌, ℕ, ◌+◌, ◌-◌, ◌*◌, ◌<◌, ◌≤◌, length}
-use Rattle.matching.specs.Ports.{takes, leaves, in_use, lacks_port, port_free, auto_port}
+use Rattle.std.proofs.Common.{◌≤◌}
+use Rattle.matching.specs.Ports.{lacks_port}
 use Rattle.matching.proofs.ports.is_port_free.Given as goal
-use borrow.Author.Rules.{rules}
-use Rattle.laws.proofs.Below.{Collected, all_start, all_turn, all_done}
+use Rattle.laws.proofs.Below.{Collected}
 use mathlib.Core.Bool.{true}
 use Rattle.state.specs.Places.{socket_in}
 

@@ -1,5 +1,3 @@
-use Rattle.std.proofs.Common.{rules, ◌≡◌, ◌≤◌, ℕ, ◌+◌, ◌-◌, ◌*◌, ◌<◌, length, ◌/◌, ◌%◌, Bool, true, false, nat_eq, nat_lt, List, [], ◌∷◌, ◌++◌, slice_index_or, slice_set, bit_and, bit_or, Fits, w8, w32, w64, Bor, MutBor}
-use Rattle.matching.specs.Routes.{reaches, route_via, four_of, route_source}
 use Rattle.matching.proofs.routes.source.Goals as goal
 use Rattle.matching.proofs.Paths.{source_loopback, source_none, source_via}
 

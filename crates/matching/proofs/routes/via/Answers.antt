@@ -1,8 +1,6 @@
-use Rattle.std.proofs.Common.{rules, ◌≡◌, ◌≤◌, ℕ, ◌+◌, ◌-◌, ◌*◌, ◌<◌, length, ◌/◌, ◌%◌, Bool, true, false, nat_eq, nat_lt, List, [], ◌∷◌, ◌++◌, slice_index_or, slice_set, bit_and, bit_or, Fits, w8, w32, w64, Bor, MutBor}
-use Rattle.matching.specs.Routes.{reaches, route_via, four_of, route_source}
+use Rattle.std.proofs.Common.{rules}
 use Rattle.matching.proofs.routes.via.Goals as goal
-use Rattle.laws.proofs.Below.{Seeking, seek_start, seek_on, seek_found, seek_none}
-use Rattle.state.specs.Places.{interface_in}
+use Rattle.laws.proofs.Below.{seek_on, seek_found, seek_none}
 use Rattle.matching.proofs.Paths.{via_found, via_none}
 
 -- src/routes.rt:21:13

@@ -1,5 +1,3 @@
-use Rattle.std.proofs.Common.{rules, ◌≡◌, ◌≤◌, ℕ, ◌+◌, ◌-◌, ◌*◌, ◌<◌, length, ◌/◌, ◌%◌, Bool, true, false, nat_eq, nat_lt, List, [], ◌∷◌, ◌++◌, slice_index_or, slice_set, bit_and, bit_or, Fits, w8, w32, w64, Bor, MutBor}
-use Rattle.matching.specs.Scores.{agrees, matched, one, score_of, better, best_of}
 use Rattle.matching.proofs.scoring.score.Goals as goal
 use Rattle.matching.proofs.Scores.{scored, unscored}
 

@@ -1,9 +1,6 @@
-use Rattle.std.proofs.Common.{rules, ◌≡◌, ◌≤◌, ℕ, ◌+◌, ◌-◌, ◌*◌, ◌<◌, length, ◌/◌, ◌%◌, Bool, true, false, nat_eq, nat_lt, List, [], ◌∷◌, ◌++◌, slice_index_or, slice_set, bit_and, bit_or, Fits, w8, w32, w64, Bor, MutBor}
-use Rattle.matching.specs.Scores.{agrees, matched, one, score_of, better, best_of}
+use Rattle.std.proofs.Common.{rules}
 use Rattle.matching.proofs.scoring.winner.Goals as goal
-use mathlib.Core.Path.{sym, ap, ◌∙◌}
-use native.Mathlib.Omega.{arith}
-use Rattle.matching.specs.Scores.{best_below}
+use mathlib.Core.Path.{sym, ◌∙◌}
 use Rattle.matching.proofs.Winner.{best_none, best_more}
 
 -- src/scoring.rt:62:5

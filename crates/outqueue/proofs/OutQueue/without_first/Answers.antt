@@ -1,8 +1,4 @@
-use Rattle.std.proofs.Common.{rules, ◌≡◌, [], ◌-◌, ◌≤◌, ◌<◌, length, ℕ, ◌+◌, ◌*◌, ◌/◌, ◌%◌, Bool, true, false, nat_eq, nat_lt, List, ◌∷◌, ◌++◌, slice_index_or, slice_set, bit_and, bit_or, Fits, w8, w32, w64, Bor, MutBor}
-use Rattle.laws.specs.Places.{popped}
-use Rattle.state.specs.Places.{no_item}
-use Rattle.outqueue.specs.Moves.{source_of, destination_of, datagram_of, notice_of, no_items, with_item, without_first, left, added, removed, Room, Some}
-use Rattle.outqueue.specs.Fits.{empty_item, item_ok_of, item_fits, out_ok}
+use Rattle.outqueue.specs.Moves.{without_first}
 use Rattle.outqueue.proofs.OutQueue.without_first.Goals as goal
 
 -- src/lib.rt:171:5

@@ -1,11 +1,7 @@
-use Rattle.std.proofs.Common.{◌≡◌, [], ◌+◌, ◌≤◌, ◌<◌, length, ℕ, ◌-◌, ◌*◌}
-use Rattle.state.specs.Places.{no_head}
-use Rattle.store.specs.Store.{slot_written}
-use Rattle.queues.specs.Moves.{count_at, first_head, no_queues, with_head, without_first, carried, Carriable, left, pushed, taken, cleared, emptied, Room, Some}
-use Rattle.queues.specs.Fits.{empty_head, head_fits, queue_fits, queues_ok}
+use Rattle.std.proofs.Common.{◌+◌, ◌≤◌, ◌*◌}
+use Rattle.queues.specs.Fits.{queue_fits}
 use Rattle.queues.proofs.Queues.are_queues.Given as goal
-use borrow.Author.Rules.{rules}
-use Rattle.laws.proofs.Below.{Collected, all_start, all_turn, all_done}
+use Rattle.laws.proofs.Below.{Collected}
 use mathlib.Core.Bool.{true}
 use lib.ListN.{get_or}
 use Rattle.state.specs.Places.{head_in, socket_in}

@@ -1,10 +1,6 @@
-use Rattle.std.proofs.Common.{rules, ◌≡◌, ◌≤◌, ◌*◌, length, ℕ, ◌+◌, ◌-◌, ◌<◌, ◌/◌, ◌%◌, Bool, true, false, nat_eq, nat_lt, List, [], ◌∷◌, ◌++◌, slice_index_or, slice_set, bit_and, bit_or, Fits, w8, w32, w64, Bor, MutBor}
-use Rattle.laws.specs.Places.{splice, copies}
-use Rattle.script.specs.Playing.{turn, Turned, Playable, played, starting, At, Stage}
 use Rattle.script.proofs.playing.advance.Goals as goal
 use native.Mathlib.Omega.{arith}
 use Rattle.script.proofs.Turns.{filled_part, turned_line, turned_bad}
-
 
 -- src/playing.rt:41:9
 pub returns-then-m : goal.returns-then-m

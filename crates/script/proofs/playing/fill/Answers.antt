@@ -1,12 +1,9 @@
-use Rattle.std.proofs.Common.{rules, ◌≡◌, ◌≤◌, ◌*◌, length, ℕ, ◌+◌, ◌-◌, ◌<◌, ◌/◌, ◌%◌, Bool, true, false, nat_eq, nat_lt, List, [], ◌∷◌, ◌++◌, slice_index_or, slice_set, bit_and, bit_or, Fits, w8, w32, w64, Bor, MutBor}
-use Rattle.laws.specs.Places.{splice, copies}
-use Rattle.script.specs.Playing.{turn, Turned, Playable, played, starting, At, Stage}
+use Rattle.std.proofs.Common.{rules}
 use Rattle.script.proofs.playing.fill.Goals as goal
 use mathlib.Core.Path.{sym}
 use native.Mathlib.Omega.{arith}
 use Rattle.laws.proofs.Splice.{length_copies, get_or_copies}
-use Rattle.laws.proofs.Filling.{Filling, fill_start, fill_turn, fill_done}
-
+use Rattle.laws.proofs.Filling.{fill_start, fill_turn, fill_done}
 
 -- src/playing.rt:14:5
 pub loop-j-init : goal.loop-j-init

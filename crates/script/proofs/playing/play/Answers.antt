@@ -1,11 +1,7 @@
-use Rattle.std.proofs.Common.{rules, ◌≡◌, ◌≤◌, ◌*◌, length, ℕ, ◌+◌, ◌-◌, ◌<◌, ◌/◌, ◌%◌, Bool, true, false, nat_eq, nat_lt, List, [], ◌∷◌, ◌++◌, slice_index_or, slice_set, bit_and, bit_or, Fits, w8, w32, w64, Bor, MutBor}
-use Rattle.laws.specs.Places.{splice, copies}
-use Rattle.script.specs.Playing.{turn, Turned, Playable, played, starting, At, Stage}
+use Rattle.std.proofs.Common.{rules}
 use Rattle.script.proofs.playing.play.Goals as goal
-use native.Mathlib.Omega.{arith}
 use mathlib.Core.Path.{refl}
-use Rattle.script.proofs.Plays.{going_on, not_ended, Kept, kept_start, kept_turn, kept_done}
-
+use Rattle.script.proofs.Plays.{going_on, not_ended, kept_start, kept_turn, kept_done}
 
 -- src/playing.rt:70:5
 pub loop-p-init : goal.loop-p-init

@@ -1,14 +1,8 @@
-use Rattle.std.proofs.Common.{rules, ◌≡◌, ◌+◌, ◌≤◌, length, ℕ, ◌-◌, ◌*◌, ◌<◌, ◌/◌, ◌%◌, Bool, true, false, nat_eq, nat_lt, List, [], ◌∷◌, ◌++◌, slice_index_or, slice_set, bit_and, bit_or, Fits, w8, w32, w64, Bor, MutBor}
-use Rattle.store.specs.Store.{zeros}
-use Rattle.script.specs.Lines.{Wrote}
-use Rattle.script.specs.Whole.{headed, interfaces_in, steps_in, left_over, output_from, ran, running}
+use Rattle.std.proofs.Common.{◌+◌}
 use Rattle.script.proofs.whole.print.Goals as goal
 use native.Mathlib.Omega.{arith}
-use mathlib.Core.Path.{sym, refl, ◌∙◌}
-use borrow.Author.Tests.{not-true, not-false}
-use Rattle.script.proofs.Ending.{headed_long, steps_fit, bad_header_lem, bad_interface_lem, plain_end, short_end, short_small}
-use Rattle.script.proofs.Text.{wrote_length}
-
+use mathlib.Core.Path.{sym, ◌∙◌}
+use Rattle.script.proofs.Ending.{bad_header_lem, bad_interface_lem, plain_end, short_end, short_small}
 
 -- src/whole.rt:66:9
 pub returns-then-not-is_headed : goal.returns-then-not-is_headed

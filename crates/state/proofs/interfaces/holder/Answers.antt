@@ -1,15 +1,13 @@
-use Rattle.std.proofs.Common.{rules, ◌≡◌, ◌&&◌, ℕ, ◌+◌, ◌-◌, ◌*◌, ◌<◌, ◌≤◌, length, ◌/◌, ◌%◌, Bool, true, false, nat_eq, nat_lt, List, [], ◌∷◌, ◌++◌, slice_index_or, slice_set, bit_and, bit_or, Fits, w8, w32, w64, Bor, MutBor}
+use Rattle.std.proofs.Common.{rules, ℕ}
 use Rattle.state.specs.Places.{no_interface}
-use Rattle.state.specs.Interfaces.{id_known, addressed, member, in_one_net, distinct_within, acceptable, usable, interface_ok, blank, fits, holds, lacks, pair_apart, apart_if, opening_ok, own_of, ours_of, own, ours, holder_id}
 use Rattle.state.proofs.interfaces.holder.Goals as goal
 use mathlib.Core.Path.{sym, ap, ◌∙◌}
 use native.Mathlib.Omega.{arith}
 use lib.ListN.{get_or-eq_default}
-use Rattle.laws.proofs.Below.{Seeking, seek_start, seek_on, seek_found, seek_none}
+use Rattle.laws.proofs.Below.{seek_on, seek_found, seek_none}
 use Rattle.state.specs.declared.Interface.{Interface}
 use Rattle.state.specs.Places.{interface_in}
 use Rattle.state.specs.Interfaces.{holder}
-
 
 -- src/interfaces.rt:206:13
 pub returns-then-has : goal.returns-then-has

@@ -1,8 +1,5 @@
-use Rattle.std.proofs.Common.{rules, ◌≡◌, ◌&&◌, ℕ, ◌+◌, ◌-◌, ◌*◌, ◌<◌, ◌≤◌, length, ◌/◌, ◌%◌, Bool, true, false, nat_eq, nat_lt, List, [], ◌∷◌, ◌++◌, slice_index_or, slice_set, bit_and, bit_or, Fits, w8, w32, w64, Bor, MutBor}
-use Rattle.state.specs.Places.{no_interface}
-use Rattle.state.specs.Interfaces.{id_known, addressed, member, in_one_net, distinct_within, acceptable, usable, interface_ok, blank, fits, holds, lacks, pair_apart, apart_if, opening_ok, own_of, ours_of, own, ours, holder_id}
+use Rattle.state.specs.Interfaces.{own}
 use Rattle.state.proofs.interfaces.is_own.Goals as goal
-
 
 -- src/interfaces.rt:180:1
 pub returns : goal.returns

@@ -1,12 +1,9 @@
-use Rattle.std.proofs.Common.{rules, ◌≡◌, ◌≤◌, ℕ, ◌+◌, ◌-◌, ◌*◌, ◌<◌, length, ◌/◌, ◌%◌, Bool, true, false, nat_eq, nat_lt, List, [], ◌∷◌, ◌++◌, slice_index_or, slice_set, bit_and, bit_or, Fits, w8, w32, w64, Bor, MutBor}
-use Rattle.state.specs.Sockets.{chained, known_of, error_known, blank, socket_fits, sockets_ok, overlap, compatible, earlier, all_apart, open_at}
+use Rattle.std.proofs.Common.{rules}
+use Rattle.state.specs.Sockets.{all_apart}
 use Rattle.state.proofs.sockets.are_apart.Goals as goal
 use mathlib.Core.Path.{ap}
 use Rattle.laws.specs.Below.{all_below}
-use Rattle.laws.proofs.Below.{Collected, all_start, all_turn, all_done, all_inner}
-use Rattle.state.specs.Places.{socket_in}
-use Rattle.state.specs.Sockets.{apart_at}
-
+use Rattle.laws.proofs.Below.{all_start, all_turn, all_done, all_inner}
 
 -- src/sockets.rt:99:5
 pub loop-k-init : goal.loop-k-init

@@ -1,14 +1,10 @@
-use Rattle.std.proofs.Common.{◌≡◌, ◌≤◌, ℕ, ◌+◌, ◌-◌, ◌*◌, ◌<◌, length}
-use Rattle.state.specs.Sockets.{chained, known_of, error_known, blank, socket_fits, sockets_ok, overlap, compatible, earlier, all_apart, open_at}
+use Rattle.std.proofs.Common.{◌≤◌}
+use Rattle.state.specs.Sockets.{compatible}
 use Rattle.state.proofs.sockets.are_apart.Given as goal
-use mathlib.Core.Path.{ap}
 use mathlib.Core.Bool.{true}
-use borrow.Author.Rules.{rules}
-use Rattle.laws.specs.Below.{all_below}
-use Rattle.laws.proofs.Below.{Collected, all_start, all_turn, all_done, all_inner}
+use Rattle.laws.proofs.Below.{Collected}
 use Rattle.state.specs.Places.{socket_in}
 use Rattle.state.specs.Sockets.{apart_at}
-
 
 abbrev pub invariant-loop-j : goal.invariant-loop-j
 invariant-loop-j l = (l.j ≤ l.m) × Collected (λ j. compatible (socket_in l.sockets j) l.s) l.initial.ok l.j l.ok

@@ -1,8 +1,6 @@
-use Rattle.std.proofs.Common.{rules, ◌≡◌, ◌≤◌, ℕ, ◌+◌, ◌-◌, ◌*◌, ◌<◌, length, ◌/◌, ◌%◌, Bool, true, false, nat_eq, nat_lt, List, [], ◌∷◌, ◌++◌, slice_index_or, slice_set, bit_and, bit_or, Fits, w8, w32, w64, Bor, MutBor}
-use Rattle.state.specs.Sockets.{chained, known_of, error_known, blank, socket_fits, sockets_ok, overlap, compatible, earlier, all_apart, open_at}
+use Rattle.state.specs.Sockets.{open_at}
 use Rattle.state.proofs.sockets.is_open.Goals as goal
 use borrow.Author.Tests.{lt-ltb, le-ltb}
-
 
 -- src/sockets.rt:112:1
 pub returns-then-k-lt16 : goal.returns-then-k-lt16

@@ -1,8 +1,6 @@
-use Rattle.std.proofs.Common.{rules, ◌≡◌, ℕ, ◌+◌, ◌-◌, ◌*◌, ◌<◌, ◌≤◌, length, ◌/◌, ◌%◌, Bool, true, false, nat_eq, nat_lt, List, [], ◌∷◌, ◌++◌, slice_index_or, slice_set, bit_and, bit_or, Fits, w8, w32, w64, Bor, MutBor}
-use Rattle.state.specs.Threads.{bound_at, thread_ok, ended, waiting}
+use Rattle.state.specs.Threads.{bound_at}
 use Rattle.state.proofs.threads.is_bound.Goals as goal
 use borrow.Author.Tests.{lt-ltb, le-ltb}
-
 
 -- src/threads.rt:8:1
 pub returns-then-k-lt16 : goal.returns-then-k-lt16

@@ -1,13 +1,11 @@
-use Rattle.std.proofs.Common.{rules, ◌≡◌, [], ℕ, ◌+◌, ◌-◌, ◌*◌, ◌<◌, ◌≤◌, length, ◌/◌, ◌%◌, Bool, true, false, nat_eq, nat_lt, List, ◌∷◌, ◌++◌, slice_index_or, slice_set, bit_and, bit_or, Fits, w8, w32, w64, Bor, MutBor}
+use Rattle.std.proofs.Common.{rules, []}
 use Rattle.host.specs.Answers.{outcome}
-use Rattle.udphost.specs.Requests.{none_of, asked, making}
 use Rattle.udphost.proofs.requests.ask.Goals as goal
 use mathlib.Core.Path.{ap}
 use Rattle.host.specs.declared.Stepped.{Stepped}
 use Rattle.history.specs.Steps.{after}
 use Rattle.udphost.specs.Requests.{asked_of}
 use Rattle.udphost.proofs.Arms.{ask_arm, ask_rest}
-
 
 -- src/requests.rt:25:1
 pub returns-in-1 : goal.returns-in-1

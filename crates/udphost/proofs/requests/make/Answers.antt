@@ -1,13 +1,10 @@
-use Rattle.std.proofs.Common.{rules, ◌≡◌, [], ℕ, ◌+◌, ◌-◌, ◌*◌, ◌<◌, ◌≤◌, length, ◌/◌, ◌%◌, Bool, true, false, nat_eq, nat_lt, List, ◌∷◌, ◌++◌, slice_index_or, slice_set, bit_and, bit_or, Fits, w8, w32, w64, Bor, MutBor}
-use Rattle.host.specs.Answers.{outcome}
-use Rattle.udphost.specs.Requests.{none_of, asked, making}
+use Rattle.std.proofs.Common.{rules}
 use Rattle.udphost.proofs.requests.make.Goals as goal
 use mathlib.Core.Path.{ap}
 use Rattle.host.specs.Answers.{Outcome}
 use Rattle.history.specs.Steps.{after}
 use Rattle.udphost.specs.Requests.{keeping, making_of}
 use Rattle.udphost.proofs.Arms.{make_arm, make_rest}
-
 
 -- src/requests.rt:50:1
 pub returns-in-5 : goal.returns-in-5
