@@ -1,8 +1,8 @@
 -- A loop that writes the n elements xs into d from index at, one a turn, and so leaves `splice d at xs`.
 --     fill_start    where the loop begins
---     fill-turn     a store of xs' element j
+--     fill_turn     a store of xs' element j
 --     fill_done     after n turns
---     fill-ahead    an element that the loop has not come to is as it was
+--     fill_ahead    an element that the loop has not come to is as it was
 -- And one that moves `rest` elements one place down over the first, with z in the last one's place, and so leaves `popped`.
 -- Assumes nothing.
 use mathlib.Core.Path.{◌≡◌, refl, sym, ap, ◌∙◌}

@@ -7,6 +7,5 @@ use Rattle.state.specs.Places.{socket_in}
 abbrev pub invariant-loop-k : goal.invariant-loop-k
 invariant-loop-k l = Seeking (λ k. closed_at (socket_in l.sockets k)) 16 0 l.k
 
--- proposed from the loop's first test
 abbrev pub decreases-loop-k : goal.decreases-loop-k
 decreases-loop-k l = 16 - l.k

@@ -3,10 +3,8 @@ use Rattle.store.proofs.put.Goals as goal
 use mathlib.Core.Path.{refl}
 use Rattle.laws.proofs.Filling.{fill_turn, fill_done}
 
--- src/lib.rt:16:5
 pub loop-j-preserved : goal.loop-j-preserved
 loop-j-preserved c = fill_turn c.loop-j.invariant _ _ refl (search rules) refl
 
--- src/lib.rt:11:1
 pub returns : goal.returns
 returns c = fill_done c.loop-j.invariant (search rules)

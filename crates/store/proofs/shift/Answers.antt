@@ -4,14 +4,11 @@ use mathlib.Core.Path.{refl, sym, ◌∙◌}
 use Rattle.laws.proofs.Splice.{length_part, get_or_part}
 use Rattle.laws.proofs.Filling.{fill_start, fill_turn, fill_done, fill_ahead}
 
--- src/lib.rt:40:5
 pub loop-j-init : goal.loop-j-init
 loop-j-init c = fill_start _ _ _ _ _ (length_part _ _ _ (search rules)) (search rules)
 
--- src/lib.rt:40:5
 pub loop-j-preserved : goal.loop-j-preserved
 loop-j-preserved c = let f = c.loop-j.invariant in fill_turn f _ _ refl (search rules) (fill_ahead f _ (search rules) ∙ sym (get_or_part _ _ _ _ _ (search rules)))
 
--- src/lib.rt:35:1
 pub returns : goal.returns
 returns c = fill_done c.loop-j.invariant (search rules)

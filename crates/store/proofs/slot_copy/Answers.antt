@@ -3,6 +3,5 @@ use Rattle.store.proofs.slot_copy.Goals as goal
 use mathlib.Core.Path.{refl}
 use Rattle.store.proofs.Slots.{copied}
 
--- src/lib.rt:58:1
 pub returns : goal.returns
 returns c = copied _ _ _ _ (search rules) (search rules) c.shift.ensures refl c.clear.ensures

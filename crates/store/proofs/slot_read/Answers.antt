@@ -3,7 +3,6 @@ use Rattle.laws.specs.Places.{part}
 use Rattle.store.proofs.slot_read.Goals as goal
 use native.Mathlib.Omega.{arith}
 
--- src/lib.rt:85:1
 pub returns : goal.returns
 unfolding part
 returns c =

@@ -3,7 +3,6 @@ use Rattle.store.proofs.slots_pop.Goals as goal
 use native.Mathlib.Omega.{arith}
 use Rattle.laws.proofs.Splice.{splice_then, length_part}
 
--- src/lib.rt:75:1
 pub returns : goal.returns
 returns c =
     let a = c.args in

@@ -3,12 +3,10 @@ use Rattle.host.proofs.Host.disconnect.Goals as goal
 use mathlib.Core.Path.{refl}
 use Rattle.host.proofs.Refusals.{refuses, passes}
 
--- src/naming.rt:86:13
 pub returns-then-n-ne0 : goal.returns-then-n-ne0
 unfolding disconnected
 returns-then-n-ne0 c = rw c.refused.ensures (refuses _ _ _ _ c.call_rows-n.ensures c.if-n-ne0.true refl)
 
--- src/naming.rt:80:5
 pub returns : goal.returns
 unfolding disconnected
 returns c = passes _ _ _ _ c.call_rows-n.ensures c.if-n-ne0.false (rw (c.with_socket.ensures, c.with_remote.ensures, c.socket_at-s.ensures, c.numbered.ensures))

@@ -3,12 +3,10 @@ use Rattle.host.proofs.Host.geterr.Goals as goal
 use mathlib.Core.Path.{refl}
 use Rattle.host.proofs.Refusals.{refuses, passes}
 
--- src/options.rt:42:13
 pub returns-then-n-ne0 : goal.returns-then-n-ne0
 unfolding error_given
 returns-then-n-ne0 c = rw c.refused.ensures (refuses _ _ _ _ c.call_rows-n.ensures c.if-n-ne0.true refl)
 
--- src/options.rt:36:5
 pub returns : goal.returns
 unfolding error_given
 returns c = passes _ _ _ _ c.call_rows-n.ensures c.if-n-ne0.false (rw (c.without_error.ensures, c.with_value.ensures, c.socket_at-s.ensures))

@@ -3,12 +3,10 @@ use Rattle.host.proofs.Host.getopt.Goals as goal
 use mathlib.Core.Path.{refl}
 use Rattle.host.proofs.Refusals.{refuses, passes}
 
--- src/options.rt:59:13
 pub returns-then-n-ne0 : goal.returns-then-n-ne0
 unfolding option_given
 returns-then-n-ne0 c = rw c.refused.ensures (refuses _ _ _ _ (rw (c.row-own.ensures, c.is_unknown.ensures) at c.call_rows-n.ensures) c.if-n-ne0.true refl)
 
--- src/options.rt:52:5
 pub returns : goal.returns
 unfolding option_given
 returns c = passes _ _ _ _ (rw (c.row-own.ensures, c.is_unknown.ensures) at c.call_rows-n.ensures) c.if-n-ne0.false (rw (c.with_value.ensures, c.option_value.ensures, c.socket_at-s.ensures))

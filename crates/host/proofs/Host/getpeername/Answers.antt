@@ -3,12 +3,10 @@ use Rattle.host.proofs.Host.getpeername.Goals as goal
 use mathlib.Core.Path.{refl}
 use Rattle.host.proofs.Refusals.{refuses, passes}
 
--- src/naming.rt:122:13
 pub returns-then-n-ne0 : goal.returns-then-n-ne0
 unfolding peer_given
 returns-then-n-ne0 c = rw c.refused.ensures (refuses _ _ _ _ (cc) c.if-n-ne0.true refl)
 
--- src/naming.rt:114:5
 pub returns : goal.returns
 unfolding peer_given
 returns c = passes _ _ _ _ (cc) c.if-n-ne0.false (rw (c.with_pair.ensures, c.socket_at-s.ensures))

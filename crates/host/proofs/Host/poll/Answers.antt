@@ -3,12 +3,10 @@ use Rattle.host.proofs.Host.poll.Goals as goal
 use mathlib.Core.Path.{refl}
 use Rattle.host.proofs.Refusals.{refuses, passes}
 
--- src/polling.rt:92:13
 pub returns-then-n-ne0 : goal.returns-then-n-ne0
 unfolding polled_of
 returns-then-n-ne0 c = rw c.refused.ensures (refuses _ _ _ _ c.poll_rows-n.ensures c.if-n-ne0.true refl)
 
--- src/polling.rt:87:5
 pub returns : goal.returns
 unfolding polled_of
 returns c = passes _ _ _ _ c.poll_rows-n.ensures c.if-n-ne0.false (rw (c.with_masks.ensures, c.writable_bits-writable.ensures, c.ready_bits-readable.ensures))

@@ -5,20 +5,16 @@ use mathlib.Core.Path.{refl}
 use Rattle.host.proofs.Refusals.{refuses, passes}
 use Rattle.host.proofs.Passed.{resuming}
 
--- src/reading.rt:119:13
 pub returns-then-n-ne0 : goal.returns-then-n-ne0
 unfolding resumed
 returns-then-n-ne0 c = rw c.refused.ensures (refuses _ _ _ _ c.wait_rows-n.ensures c.if-n-ne0.true refl)
 
--- src/reading.rt:122:9
 pub resume_on-requires-clause-ready : goal.resume_on-requires-clause-ready
 resume_on-requires-clause-ready c = (resuming c.args.self (length c.args.store.now) c.wait_rows-n.ensures c.if-n-ne0.false).0
 
--- src/reading.rt:122:9
 pub resume_on-requires-clause-k_bound : goal.resume_on-requires-clause-k_bound
 resume_on-requires-clause-k_bound c = rw c.awaited.ensures (resuming c.args.self (length c.args.store.now) c.wait_rows-n.ensures c.if-n-ne0.false).1
 
--- src/reading.rt:114:5
 pub returns : goal.returns
 unfolding resumed
 returns c = passes _ _ _ _ c.wait_rows-n.ensures c.if-n-ne0.false (rw c.awaited.ensures at c.resume_on.ensures)

@@ -2,7 +2,6 @@ use Rattle.host.specs.Moves.{with_out}
 use Rattle.host.proofs.Host.with_out.Goals as goal
 use mathlib.Core.Path.{refl}
 
--- src/lib.rt:149:5
 pub returns : goal.returns
 unfolding with_out
 returns c = refl

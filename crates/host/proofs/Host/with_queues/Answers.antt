@@ -2,7 +2,6 @@ use Rattle.host.specs.Moves.{with_queues}
 use Rattle.host.proofs.Host.with_queues.Goals as goal
 use mathlib.Core.Path.{refl}
 
--- src/lib.rt:141:5
 pub returns : goal.returns
 unfolding with_queues
 returns c = refl

@@ -7,12 +7,10 @@ use lib.ListN.{set}
 use lib.Seq.{set_out}
 use Rattle.host.specs.Moves.{with_sockets}
 
--- src/lib.rt:97:13
 pub returns-then-k-lt16 : goal.returns-then-k-lt16
 unfolding with_socket
 returns-then-k-lt16 c = refl
 
--- src/lib.rt:91:5
 pub returns : goal.returns
 unfolding with_socket
 returns c =

@@ -2,7 +2,6 @@ use Rattle.host.specs.Moves.{with_thread}
 use Rattle.host.proofs.Host.with_thread.Goals as goal
 use mathlib.Core.Path.{refl}
 
--- src/lib.rt:157:5
 pub returns : goal.returns
 unfolding with_thread
 returns c = refl

@@ -2,14 +2,11 @@ use Rattle.std.proofs.Common.{rules}
 use Rattle.host.proofs.polling.ready_bits.Goals as goal
 use Rattle.host.proofs.Bits.{ready_start, ready_turn, ready_fits}
 
--- src/polling.rt:62:5
 pub loop-k-init : goal.loop-k-init
 loop-k-init c = (search rules, ready_start _ _)
 
--- src/polling.rt:63:16
 pub overflow_add-bits : goal.overflow_add-bits
 overflow_add-bits c = record { fits = ready_fits c.loop-k.invariant.1 (search rules) c.ready_bit-bits.ensures }
 
--- src/polling.rt:62:5
 pub loop-k-preserved : goal.loop-k-preserved
 loop-k-preserved c = (search rules, ready_turn c.loop-k.invariant.1 c.ready_bit-bits.ensures)

@@ -5,16 +5,13 @@ use mathlib.Core.Path.{sym, ◌∙◌}
 use native.Mathlib.Omega.{arith}
 use Rattle.laws.proofs.Below.{seek_on, seek_found, seek_none}
 
--- src/ports.rt:58:13
 pub returns-then-is_port_free : goal.returns-then-is_port_free
 unfolding auto_port
 returns-then-is_port_free c = sym (seek_found c.loop-p.invariant (search rules) c.is_port_free.ensures c.if-is_port_free.true)
 
--- src/ports.rt:56:5
 pub loop-p-preserved : goal.loop-p-preserved
 loop-p-preserved c = seek_on c.loop-p.invariant (search rules) c.is_port_free.ensures c.if-is_port_free.false
 
--- src/ports.rt:52:1
 pub returns : goal.returns
 unfolding auto_port
 returns c =

@@ -6,6 +6,5 @@ use Rattle.laws.proofs.Below.{Seeking}
 abbrev pub invariant-loop-p : goal.invariant-loop-p
 invariant-loop-p l = Seeking (port_free l.sockets) 3976 1024 l.p
 
--- proposed from the loop's first test
 abbrev pub decreases-loop-p : goal.decreases-loop-p
 decreases-loop-p l = 5000 - l.p

@@ -5,15 +5,12 @@ use Rattle.laws.proofs.Below.{all_start, all_turn, all_done}
 use mathlib.Core.Path.{ap}
 use mathlib.Core.Bool.{not}
 
--- src/ports.rt:27:5
 pub loop-j-init : goal.loop-j-init
 loop-j-init c = (search rules, all_start _ _)
 
--- src/ports.rt:27:5
 pub loop-j-preserved : goal.loop-j-preserved
 loop-j-preserved c = (search rules, all_turn c.loop-j.invariant.1 c.is_leaving-ok.ensures)
 
--- src/ports.rt:23:1
 pub returns : goal.returns
 unfolding in_use
 returns c = ap not (all_done c.loop-j.invariant.1 16 (search rules) (search rules))

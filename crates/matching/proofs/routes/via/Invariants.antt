@@ -7,6 +7,5 @@ use Rattle.state.specs.Places.{interface_in}
 abbrev pub invariant-loop-i : goal.invariant-loop-i
 invariant-loop-i l = Seeking (λ i. reaches (interface_in l.interfaces i) l.dst) l.n 0 l.i
 
--- proposed from the loop's first test
 abbrev pub decreases-loop-i : goal.decreases-loop-i
 decreases-loop-i l = l.n - l.i

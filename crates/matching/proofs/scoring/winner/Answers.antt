@@ -3,11 +3,9 @@ use Rattle.matching.proofs.scoring.winner.Goals as goal
 use mathlib.Core.Path.{sym, ◌∙◌}
 use Rattle.matching.proofs.Winner.{best_none, best_more}
 
--- src/scoring.rt:62:5
 pub loop-i-init : goal.loop-i-init
 loop-i-init c = (search rules, best_none _ _)
 
--- src/scoring.rt:62:5
 pub loop-i-preserved : goal.loop-i-preserved
 loop-i-preserved c =
     (search rules, c.outdone-b.ensures ∙ rw (c.score-s.ensures, c.loop-i.invariant.1) (sym (best_more _ _ _)))

@@ -3,15 +3,12 @@ use Rattle.queues.specs.Fits.{queues_ok}
 use Rattle.queues.proofs.Queues.are_queues.Goals as goal
 use Rattle.laws.proofs.Below.{all_start, all_turn, all_done}
 
--- src/lib.rt:71:9
 pub loop-k-init : goal.loop-k-init
 loop-k-init c = (search rules, all_start _ _)
 
--- src/lib.rt:71:9
 pub loop-k-preserved : goal.loop-k-preserved
 loop-k-preserved c = (search rules, all_turn c.loop-k.invariant.1 c.queue_fits-ok.ensures)
 
--- src/lib.rt:65:5
 pub returns : goal.returns
 unfolding queues_ok
 returns c = all_done c.loop-k.invariant.1 16 (search rules) (search rules)

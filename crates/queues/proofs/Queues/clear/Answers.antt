@@ -3,7 +3,6 @@ use Rattle.queues.proofs.Queues.clear.Goals as goal
 use Rattle.queues.proofs.Moves.{all_removed}
 use native.Mathlib.Omega.{arith}
 
--- src/lib.rt:174:5
 pub returns : goal.returns
 returns c =
     let g : ◌≡◌ {A = ℕ} (length c.args.self.heads) 64 = search rules in

@@ -2,7 +2,6 @@ use Rattle.queues.specs.Moves.{with_head}
 use Rattle.queues.proofs.Queues.with_head.Goals as goal
 use mathlib.Core.Path.{refl}
 
--- src/lib.rt:114:5
 pub returns : goal.returns
 unfolding with_head
 returns c = refl

@@ -3,7 +3,6 @@ use Rattle.queues.proofs.Queues.without_first.Goals as goal
 use native.Mathlib.Omega.{arith}
 use Rattle.queues.proofs.Moves.{first_removed}
 
--- src/lib.rt:143:5
 pub returns : goal.returns
 returns c =
     let a = c.args in

@@ -2,6 +2,5 @@ use Rattle.script.proofs.lines.put.Goals as goal
 use mathlib.Core.Path.{refl}
 use Rattle.script.proofs.Text.{wrote_one}
 
--- src/lines.rt:8:1
 pub returns : goal.returns
 returns c = wrote_one _ _ _ c.requires refl

@@ -3,7 +3,6 @@ use Rattle.script.proofs.lines.put_closing.Goals as goal
 use native.Mathlib.Omega.{arith}
 use Rattle.script.proofs.Text.{wrote_then, decimal_length}
 
--- src/lines.rt:140:1
 pub returns : goal.returns
 unfolding closing
 returns c = let b = decimal_length c.args.n in wrote_then c.put_number-i.ensures.0 c.put_text.ensures (omega (arith, b, c.requires.0))

@@ -4,10 +4,8 @@ use mathlib.Core.Path.{refl}
 use native.Mathlib.Omega.{arith}
 use Rattle.laws.proofs.Filling.{fill_turn, fill_done}
 
--- src/lines.rt:132:5
 pub loop-j-preserved : goal.loop-j-preserved
 loop-j-preserved c = fill_turn c.loop-j.invariant _ _ refl (search rules) refl
 
--- src/lines.rt:127:1
 pub returns : goal.returns
 returns c = let f = c.loop-j.invariant in record { text = fill_done f (search rules); end = omega (arith, f.upto, c.loop-j-test.false) }

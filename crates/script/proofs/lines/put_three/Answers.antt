@@ -2,6 +2,5 @@ use Rattle.script.proofs.lines.put_three.Goals as goal
 use native.Mathlib.Omega.{arith}
 use Rattle.script.proofs.Text.{wrote_then}
 
--- src/lines.rt:31:1
 pub returns : goal.returns
 returns c = wrote_then c.put_two-i.ensures c.put_one.ensures (omega (arith, c.requires.0))

@@ -2,7 +2,6 @@ use Rattle.script.proofs.whole.buffer_space.Goals as goal
 use mathlib.Core.Path.{refl}
 use Rattle.laws.specs.Places.{copies}
 
--- src/whole.rt:95:1
 pub returns : goal.returns
 unfolding copies
 returns c = refl

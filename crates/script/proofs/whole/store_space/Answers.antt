@@ -2,7 +2,6 @@ use Rattle.script.proofs.whole.store_space.Goals as goal
 use mathlib.Core.Path.{refl}
 use Rattle.laws.specs.Places.{copies}
 
--- src/whole.rt:89:1
 pub returns : goal.returns
 unfolding copies
 returns c = refl

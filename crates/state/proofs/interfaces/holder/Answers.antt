@@ -9,18 +9,15 @@ use Rattle.state.specs.declared.Interface.{Interface}
 use Rattle.state.specs.Places.{interface_in}
 use Rattle.state.specs.Interfaces.{holder}
 
--- src/interfaces.rt:206:13
 pub returns-then-has : goal.returns-then-has
 unfolding holder
 returns-then-has c =
     ap (λ (i : ℕ). (interface_in c.args.interfaces i).id)
     (sym (seek_found c.loop-i.invariant (search rules) c.has.ensures c.if-has.true))
 
--- src/interfaces.rt:203:5
 pub loop-i-preserved : goal.loop-i-preserved
 loop-i-preserved c = seek_on c.loop-i.invariant (search rules) c.has.ensures c.if-has.false
 
--- src/interfaces.rt:199:1
 pub returns : goal.returns
 unfolding holder
 returns c =
