@@ -9,8 +9,9 @@ use native.Mathlib.Omega.{arith}
 use lib.Dec.{eqb}
 use lib.ListN.{length, set, length-set}
 use borrow.Author.Tests.{eqb-false, not-true}
-use Rattle.laws.proofs.Numbers.{same_or_not, below}
-use Rattle.laws.proofs.Tests.{two, not_both, cond_cases}
+use Rattle.std.proofs.lemmas.Bool.{cases_Bool, cases_eq, cond_both}
+use Rattle.laws.proofs.Numbers.{below}
+use Rattle.laws.proofs.Tests.{not_both}
 use Rattle.laws.proofs.Below.{lowest_passes, lowest_upto}
 use Rattle.net.specs.declared.Port.{Port}
 use Rattle.state.specs.declared.Interface.{Interface}
@@ -40,15 +41,15 @@ pub stands_keeps : {is : List Interface} {ks : List Socket} {k : ℕ} {s : Socke
 stands_keeps {is} {ks} {k} {s} f hk w =
     record {
       sized = simp length-set f.sized;
-      fit = λ j hj. ⊎_elim (λ (e : j ≡ k). rw (e, there) w.fit) (λ (d : j ≢ k). rw (socket_else ks k s j d) (f.fit j hj)) (same_or_not j k);
+      fit = λ j hj. ⊎_elim (λ (e : j ≡ k). rw (e, there) w.fit) (λ (d : j ≢ k). rw (socket_else ks k s j d) (f.fit j hj)) (cases_eq j k);
       apart =
           λ i j hi hj d. ⊎_elim
           (λ (e : i ≡ k). let n : j ≢ k = λ x. d (e ∙ sym x) in rw (e, there, socket_else ks k s j n) (w.apart j hj n))
           (λ (n : i ≢ k). ⊎_elim
           (λ (e : j ≡ k). rw (e, there, socket_else ks k s i n) (apart_sym (w.apart i hi n)))
           (λ (m : j ≢ k). rw (socket_else ks k s i n, socket_else ks k s j m) (f.apart i j hi hj d))
-          (same_or_not j k))
-          (same_or_not i k);
+          (cases_eq j k))
+          (cases_eq i k);
     }
   where
     there : socket_in (set ks k s) k ≡ s
@@ -72,7 +73,7 @@ narrow_apart {s} {t} {u} l p r q a =
 -- a pair that is not in use
 unused_apart : (ks : List Socket) (k a p : ℕ) (s : Socket) → in_use ks k s.reuse a p ≡ false → s.laddr ≡ a → s.lport.0 ≡ p
     → (j : ℕ) → j < 16 → j ≢ k → Apart s (socket_in ks j)
-unused_apart ks k a p s free ea ep j hj d = record { reused = λ x y n e o. ⊎_elim (λ u. ⊎_elim (λ v. (v, u)) (λ v. absurd (taken y e o (λ b. not_both b.1 v))) (two s.reuse)) (λ u. absurd (taken y e o (λ b. not_both b.0 u))) (two (socket_in ks j).reuse) }
+unused_apart ks k a p s free ea ep j hj d = record { reused = λ x y n e o. ⊎_elim (λ u. ⊎_elim (λ v. (v, u)) (λ v. absurd (taken y e o (λ b. not_both b.1 v))) (cases_Bool s.reuse)) (λ u. absurd (taken y e o (λ b. not_both b.0 u))) (cases_Bool (socket_in ks j).reuse) }
   where
     taken : (socket_in ks j).live ≡ true → s.lport.0 ≡ (socket_in ks j).lport.0 → Overlap s.laddr (socket_in ks j).laddr
         → (((socket_in ks j).reuse ≡ true) × (s.reuse ≡ true) → ⊥) → ⊥
@@ -157,4 +158,4 @@ lowest_closed_lem ks d =
 -- autobind gives a port
 pub port_some : (ks : List Socket) (p : Port) → (port_for ks p).0 ≢ 0
 port_some ks p =
-    cond_cases (eqb p.0 0) _ _ (λ (q : Port). q.0 ≢ 0) (λ e z. omega (arith, auto_from ks)) (λ e. eqb-false _ _ e)
+    cond_both (eqb p.0 0) _ _ (λ (q : Port). q.0 ≢ 0) (λ e z. omega (arith, auto_from ks)) (λ e. eqb-false _ _ e)

@@ -1,5 +1,5 @@
 -- What the calls do to a socket
-use Rattle.std.specs.Prelude.{ℕ, List, Bool, true, false, not, cond, eqb}
+use Rattle.std.specs.Prelude.{ℕ, List, Option, None, Some, Bool, true, false, not, cond, eqb, ltb}
 use Rattle.laws.specs.Below.{lowest}
 use Rattle.net.specs.declared.Port.{Port}
 use Rattle.state.specs.declared.Socket.{Socket}
@@ -16,6 +16,10 @@ closed_at s = not s.live
 -- the lowest closed descriptor; 16 where every one is open
 unfoldable pub lowest_closed : List Socket → ℕ
 lowest_closed ks = lowest (λ k. closed_at (socket_in ks k)) 16 0
+
+-- a descriptor, where it is one of the 16
+abbrev pub below_16 : ℕ → Option ℕ
+below_16 k = cond (ltb k 16) (Some k) None
 
 abbrev pub with_local : Socket → ℕ → Port → Socket
 with_local s a p =

@@ -9,7 +9,7 @@ use native.Mathlib.Omega.{arith}
 use lib.Dec.{eqb}
 use lib.ListN.{length}
 use borrow.Author.Tests.{eqb-false, eq-eqb, ne_eqb}
-use Rattle.laws.proofs.Numbers.{same_or_not}
+use Rattle.std.proofs.lemmas.Bool.{cases_eq}
 use Rattle.state.specs.declared.Interface.{Interface}
 use Rattle.state.specs.declared.Queued.{Queued}
 use Rattle.state.specs.declared.Socket.{Socket}
@@ -96,14 +96,14 @@ module _ (ks : List Socket) (q : Queues) (z : Sized q) (o : OutQueue) (y : outs.
           ⊎_elim
           (λ (e : j ≡ k). rw e (simp (eq-eqb k k refl) (push_held q z s k w h p small size)))
           (λ (d : j ≢ k). simp (ne_eqb j k d) (held_same q after s bytes j space long l (few j l) (push_else q z s k w h p small j l d) ∙ sym (append-nil (held q s j))))
-          (same_or_not j k)
+          (cases_eq j k)
 
       pushed_fits : ((j : ℕ) → j < 16 → QueueFit (socket_in ks j).live q j) → (j : ℕ) → j < 16 → QueueFit (socket_in ks j).live after j
       pushed_fits f j l =
           ⊎_elim
           (λ (e : j ≡ k). rw (e, live) (push_fit q z s k w h p small (omega (arith, size)) (rw live at (f k w.small))))
           (λ (d : j ≢ k). fit_same (push_else q z s k w h p small j l d) (f j l))
-          (same_or_not j k)
+          (cases_eq j k)
 
       pushed_facts : o.count ≤ 16 → Facts ks q o s h p (record { queues = after; out = o; bytes = bytes; number = 20; at = k })
       pushed_facts full =

@@ -1,5 +1,5 @@
 -- What becomes of a datagram: document 01, "Who gets a datagram", from outside and from inside alike
-use Rattle.std.specs.Prelude.{ℕ, List, [], ◌∷◌, Bool, true, ◌&&◌, cond, ltb, eqb, length}
+use Rattle.std.specs.Prelude.{ℕ, List, [], ◌∷◌, Bool, true, ◌&&◌, cond, ltb, eqb, length, Option}
 use Rattle.laws.specs.Places.{part}
 use Rattle.net.specs.Address.{loopback}
 use Rattle.net.specs.declared.Flow.{Flow}
@@ -15,9 +15,9 @@ use Rattle.queues.specs.Held.{Datagram}
 use Rattle.outqueue.specs.declared.OutQueue.{OutQueue}
 use Rattle.outqueue.specs.Moves.{item_at, notice_of, added, without_first}
 use Rattle.outqueue.specs.Held.{Parcel}
-use Rattle.delivery.specs.declared.Delivery.{Delivery}
-use Rattle.delivery.specs.declared.Queueing.{Queueing}
+use Rattle.delivery.specs.declared.Fate.{Fate}
 use Rattle.delivery.specs.declared.Landing.{Landing}
+use Rattle.delivery.specs.Fate.{fate_number, fate_at, number_so_far, at_so_far}
 
 -- ---- into a queue (000, delivery.in.udp.1 and delivery.loopback.udp.1)
 
@@ -28,8 +28,9 @@ pub record Delivered : Type 0 where
   pub number : ℕ
   pub at : ℕ
 
-abbrev pub delivered : Delivery → List ℕ → Delivered
-delivered r s = record { queues = r.queues; bytes = s; number = r.number; at = r.at }
+-- no fate yet where there is no winner
+abbrev pub delivered : Queues → Option Fate → List ℕ → Delivered
+delivered q f s = record { queues = q; bytes = s; number = number_so_far f; at = at_so_far f }
 
 -- who gets it, as its head says where it comes from and goes
 abbrev pub winner_of : List Socket → Queued → ℕ
@@ -53,9 +54,6 @@ pub record QueuedNotice : Type 0 where
   pub bytes : List ℕ
   pub number : ℕ
 
-abbrev pub queued_notice : Queueing → List ℕ → QueuedNotice
-queued_notice r s = record { out = r.out; bytes = s; number = r.number }
-
 -- 22 PORT notice queued, embedding the flow, or 23 if it may not be or the out-queue is full
 unfoldable pub noticing : OutQueue → List ℕ → Flow → Bool → QueuedNotice
 noticing o s f may =
@@ -72,7 +70,7 @@ pub record Landed : Type 0 where
   pub at : ℕ
 
 abbrev pub landed : Landing → List ℕ → Landed
-landed r s = record { queues = r.queues; out = r.out; bytes = s; number = r.number; at = r.at }
+landed r s = record { queues = r.queues; out = r.out; bytes = s; number = fate_number r.fate; at = fate_at r.fate }
 
 -- what the delivery d left; where there was no winner, a notice
 unfoldable pub settled : Delivered → OutQueue → Flow → Bool → Landed

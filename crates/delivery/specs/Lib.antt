@@ -1,2 +1,3 @@
+pub mod Fate
 pub mod Landing
 pub mod Hearing

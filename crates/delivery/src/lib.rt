@@ -1,127 +1,102 @@
 // What becomes of a datagram, and who hears of a notice. Nothing here is given interfaces, options to set or the thread.
 #![tactic(auto)]
 
-ghost use Rattle.std.specs.Prelude.{◌≡◌, ◌≤◌, length};
-ghost use Rattle.queues.specs.Moves.{carried, Carriable};
+ghost use Rattle.std.specs.Prelude.{◌≡◌, ◌≤◌, length, is_none};
+ghost use Rattle.queues.specs.Moves.{lent_bytes, carried, Carriable};
 ghost use Rattle.outqueue.specs.Moves.{item_at, Some};
-ghost use Rattle.delivery.specs.Landing.{delivered, delivering, queued_notice, noticing, landed, settled, arriving, looping};
-ghost use Rattle.delivery.specs.Hearing.{turned, listens, hearing};
+ghost use Rattle.delivery.specs.Landing.{delivered, delivering, landed, settled, arriving, looping};
+ghost use Rattle.delivery.specs.Hearing.{turned, listens, heard_as, hearing};
 
-use net::{Flow, InterfaceId};
+use net::{Descriptor, Flow, InterfaceId};
 use outqueue::OutQueue;
 use queues::Queues;
-use state::{Queued, Socket};
+use state::{OutItem, Queued, Socket};
 
-// 20 delivered to at, 21 dropped by at; 0 where there is no winner.
-#[derive(Clone, Copy)]
-pub struct Delivery {
-    pub queues: Queues,
-    pub number: u8,
-    pub at: u8,
+// Of a datagram: the winner's queue took it or was full (document 01's 20 and 21);
+// where nobody wins, a notice is queued or none is (22 and 23).
+#[derive(Clone, Copy, PartialEq, Eq)]
+pub enum Fate {
+    Delivered(Descriptor),
+    Dropped(Descriptor),
+    NoticeQueued,
+    NoticeNotQueued,
 }
 
-// 22 a notice is queued, 23 none is.
-#[derive(Clone, Copy)]
-pub struct Queueing {
-    pub out: OutQueue,
-    pub number: u8,
-}
-
-// 20, 21, 22 or 23; at is the winner with 20 and 21, else 0.
 #[derive(Clone, Copy)]
 pub struct Landing {
     pub queues: Queues,
     pub out: OutQueue,
-    pub number: u8,
-    pub at: u8,
+    pub fate: Fate,
 }
 
-// 27 or 28 with the winner, or 29.
-#[derive(Clone, Copy)]
-pub struct Hearing {
-    pub at: usize,
-    pub number: u8,
+// Of a notice: its socket hears of it or is not to be told, or there is no such socket (27, 28, 29).
+#[derive(Clone, Copy, PartialEq, Eq)]
+pub enum Hearing {
+    Heard(Descriptor),
+    NotTold(Descriptor),
+    Nobody,
 }
 
 // ---- a datagram
 
-// Into the winner's queue, if it has room; the bytes are the payload or, from inside, those of the out-queue's oldest item.
+// Into the winner's queue, if it has room; no fate yet where nobody wins.
+// stays: the store's length is a clause here and below; as an array it would be taken apart from the lent slice in every step.
+// The bytes are the lent payload or, where none is lent, those of the out-queue's oldest item.
+#[tactic(auto, using(matching::proofs::Winner::winner_small), unfolding(crate::specs::Landing::delivering))]
 fn deliver(
-    sockets: [Socket; 16],
+    sockets: &[Socket; 16],
     queues: Queues,
     store: &mut [u8],
     h: Queued,
-    payload: &[u8],
-    inside: bool,
-) -> Delivery
-    requires { (length store.old ≡ 40960) × Carriable payload.now h.len inside }
-    ensures { delivered result store.new ≡ delivering sockets queues store.old h (carried store.old payload.now h.len inside) }
+    payload: Option<&[u8]>,
+) -> (Queues, Option<Fate>)
+    requires { (length store.old ≡ 40960) × Carriable (lent_bytes payload) h.len (is_none payload) }
+    ensures { delivered result.0 result.1 store.new ≡ delivering sockets.now queues store.old h (carried store.old (lent_bytes payload.entry) h.len (is_none payload.entry)) }
 {
-    let flow = h.flow;
-    let b = matching::scoring::winner(sockets, flow);
-    if b.score == 0 {
-        return Delivery {
-            queues,
-            number: 0,
-            at: 0,
-        };
-    }
-    let k = b.at;
-    if queues.counts[k] < 4 {
-        return Delivery {
-            queues: queues.push(store, k, h, payload, inside),
-            number: 20,
-            at: k as u8,
-        };
-    }
-    Delivery {
-        queues,
-        number: 21,
-        at: k as u8,
+    let Some(b) = matching::scoring::winner(sockets, h.flow) else {
+        return (queues, None);
+    };
+    let d = Descriptor(b.at as u8);
+    if queues.counts[b.at] < 4 {
+        let longer = queues.push(store, b.at, h, payload);
+        (longer, Some(Fate::Delivered(d)))
+    } else {
+        (queues, Some(Fate::Dropped(d)))
     }
 }
 
-// A PORT notice for the sender of a datagram that nobody took, if there may be one and there is room.
-fn queue_notice(out: OutQueue, store: &mut [u8], flow: Flow, may: bool) -> Queueing
+// The fate stands; where nobody won, a PORT notice for the sender, if there may be one and there is room.
+#[tactic(auto, unfolding(crate::specs::Landing::settled, crate::specs::Landing::noticing))]
+fn settle(
+    queues: Queues,
+    fate: Option<Fate>,
+    out: OutQueue,
+    store: &mut [u8],
+    flow: Flow,
+    may: bool,
+) -> Landing
     requires { length store.old ≡ 40960 }
-    ensures { queued_notice result store.new ≡ noticing out store.old flow may }
+    ensures { landed result store.new ≡ settled (delivered queues fate store.old) out flow may }
 {
-    if may & (out.count < 16) {
-        return Queueing {
-            out: out.add_notice(store, flow, 1),
-            number: 22,
-        };
-    }
-    Queueing { out, number: 23 }
-}
-
-// The delivery stands; where there was no winner, a notice.
-fn settle(d: Delivery, out: OutQueue, store: &mut [u8], flow: Flow, may: bool) -> Landing
-    requires { length store.old ≡ 40960 }
-    ensures { landed result store.new ≡ settled (delivered d store.old) out flow may }
-{
-    let queues = d.queues;
-    if d.number == 0 {
-        let n = queue_notice(out, store, flow, may);
-        let longer = n.out;
-        return Landing {
+    match fate {
+        Some(fate) => Landing { queues, out, fate },
+        None if may && out.count < 16 => Landing {
             queues,
-            out: longer,
-            number: n.number,
-            at: 0,
-        };
-    }
-    Landing {
-        queues,
-        out,
-        number: d.number,
-        at: d.at,
+            out: out.add_notice(store, flow, OutItem::PORT),
+            fate: Fate::NoticeQueued,
+        },
+        None => Landing {
+            queues,
+            out,
+            fate: Fate::NoticeNotQueued,
+        },
     }
 }
 
+// stays: four parts of the host, since sockets are only read and a struct of them would be the host, which stands above.
 // A datagram from outside, on the interface iface.
 pub fn arrive(
-    sockets: [Socket; 16],
+    sockets: &[Socket; 16],
     queues: Queues,
     out: OutQueue,
     store: &mut [u8],
@@ -130,39 +105,34 @@ pub fn arrive(
     payload: &[u8],
 ) -> Landing
     requires { (length store.old ≡ 40960) × (length payload.now ≤ 512) }
-    ensures { landed result store.new ≡ arriving sockets queues out store.old flow iface payload.now }
+    ensures { landed result store.new ≡ arriving sockets.now queues out store.old flow iface payload.now }
 {
     let h = Queued {
         flow,
         len: payload.len() as u16,
         iface,
     };
-    let d = deliver(sockets, queues, store, h, payload, false);
-    settle(d, out, store, flow, true)
+    let (queues, fate) = deliver(sockets, queues, store, h, Some(payload));
+    settle(queues, fate, out, store, flow, true)
 }
 
 // The out-queue's oldest item, a datagram, comes back in. Its bytes go into the winner's queue before its slot goes.
-pub fn loop_back(
-    sockets: [Socket; 16],
-    queues: Queues,
-    out: OutQueue,
-    store: &mut [u8],
-    unread: &[u8],
-) -> Landing
+#[tactic(auto, using(crate::proofs::Cases::looped))]
+pub fn loop_back(sockets: &[Socket; 16], queues: Queues, out: OutQueue, store: &mut [u8]) -> Landing
     requires some { Some out store.old }
     requires out_bound { (item_at out 0).len ≤ 512 }
-    ensures { landed result store.new ≡ looping sockets queues out store.old }
+    ensures { landed result store.new ≡ looping sockets.now queues out store.old }
 {
     let x = out.items[0];
-    let flow = x.flow;
     let h = Queued {
-        flow,
+        flow: x.flow,
         len: x.len,
         iface: InterfaceId(0),
     };
-    let d = deliver(sockets, queues, store, h, unread, true);
+    let (queues, fate) = deliver(sockets, queues, store, h, None);
     let rest = out.remove(store);
-    settle(d, rest, store, flow, net::is_loopback(x.flow.src))
+    let may = net::is_loopback(x.flow.src);
+    settle(queues, fate, rest, store, x.flow, may)
 }
 
 // ---- a notice
@@ -171,33 +141,32 @@ pub fn loop_back(
 fn turn(f: Flow) -> Flow
     ensures { result ≡ turned f }
 {
-    let sport = f.dport;
-    let dport = f.sport;
     Flow {
         src: f.dst,
         dst: f.src,
-        sport,
-        dport,
+        sport: f.dport,
+        dport: f.sport,
     }
 }
 
 fn is_listening(s: Socket) -> bool
     ensures { result ≡ listens s }
 {
-    (s.raddr != 0) | !s.bsdcompat
+    s.raddr != 0 || !s.bsdcompat
 }
 
 // Who hears of a notice that embeds the flow: the socket that an answer would go to.
-pub fn hear(sockets: [Socket; 16], flow: Flow) -> Hearing
-    ensures { result ≡ hearing sockets flow }
+#[tactic(auto, using(matching::proofs::Winner::winner_small), unfolding(crate::specs::Hearing::hearing))]
+pub fn hear(sockets: &[Socket; 16], flow: Flow) -> Hearing
+    ensures { heard_as result ≡ hearing sockets.now flow }
 {
-    let b = matching::scoring::winner(sockets, turn(flow));
-    if b.score == 0 {
-        return Hearing { at: 0, number: 29 };
+    let Some(b) = matching::scoring::winner(sockets, turn(flow)) else {
+        return Hearing::Nobody;
+    };
+    let d = Descriptor(b.at as u8);
+    if is_listening(sockets[b.at]) {
+        Hearing::Heard(d)
+    } else {
+        Hearing::NotTold(d)
     }
-    let k = b.at;
-    if is_listening(sockets[k]) {
-        return Hearing { at: k, number: 27 };
-    }
-    Hearing { at: k, number: 28 }
 }

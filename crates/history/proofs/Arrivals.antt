@@ -9,7 +9,8 @@ use native.Mathlib.Omega.{arith}
 use lib.Dec.{eqb}
 use lib.ListN.{length}
 use borrow.Author.Tests.{eqb-true, eqb-false, not-true}
-use Rattle.laws.proofs.Tests.{cond_cases, and_left, and_right, or_two}
+use Rattle.std.proofs.lemmas.Bool.{cond_both, or_right}
+use Rattle.laws.proofs.Tests.{and_left, and_right}
 use Rattle.net.specs.Address.{loopback}
 use Rattle.net.specs.declared.Flow.{Flow}
 use Rattle.state.specs.declared.Socket.{Socket}
@@ -27,8 +28,7 @@ use Rattle.outqueue.specs.declared.OutQueue.{OutQueue}
 use Rattle.outqueue.specs.Fits.{OutFit}
 use Rattle.outqueue.specs.Held.{Parcel, waiting_out}
 use Rattle.delivery.specs.Landing.{Landed, leaves_notice}
-use Rattle.delivery.specs.declared.Hearing.{Hearing}
-use Rattle.delivery.specs.Hearing.{turned, sender_of, listens, hearing}
+use Rattle.delivery.specs.Hearing.{turned, sender_of, listens, Sought, hearing}
 use Rattle.delivery.proofs.Facts.{Facts, landing_facts}
 use Rattle.host.specs.declared.Host.{Host}
 use Rattle.host.specs.declared.Stepped.{Stepped}
@@ -61,9 +61,9 @@ pub record Heard (h : Host) (f : Flow) (r : Stepped) : Type 0 where
 pub hearing_facts : (ks : List Socket) (f : Flow) → (27 ≤ (hearing ks f).number) × ((hearing ks f).number ≤ 29) × ((hearing ks f).number ≡ 27 → Picks ks (turned f) (hearing ks f).at)
 unfolding hearing
 hearing_facts ks f =
-    cond_cases (eqb (sender_of ks f).score 0) _ _ (λ (x : Hearing). (27 ≤ x.number) × (x.number ≤ 29) × (x.number ≡ 27 → Picks ks (turned f) x.at))
+    cond_both (eqb (sender_of ks f).score 0) _ _ (λ (x : Sought). (27 ≤ x.number) × (x.number ≤ 29) × (x.number ≡ 27 → Picks ks (turned f) x.at))
     (λ e. (omega arith, omega arith, λ z. absurd (omega (arith, z))))
-    (λ e. cond_cases (listens (socket_in ks (sender_of ks f).at)) 27 28 (λ n. (27 ≤ n) × (n ≤ 29) × (n ≡ 27 → Picks ks (turned f) (sender_of ks f).at))
+    (λ e. cond_both (listens (socket_in ks (sender_of ks f).at)) 27 28 (λ n. (27 ≤ n) × (n ≤ 29) × (n ≡ 27 → Picks ks (turned f) (sender_of ks f).at))
     (λ z. (omega arith, omega arith, λ x. (eqb-false _ _ e, refl))) (λ z. (omega arith, omega arith, λ x. absurd (omega (arith, x)))))
 
 error_kept : (h : Host) → Sound h → (k : ℕ) → k < 16 → (socket_at h k).live ≡ true → Sound (with_socket h k (with_error (socket_at h k) 10))
@@ -83,7 +83,7 @@ unfolding heard_step with_socket
 heard_facts h g f =
     let n = hearing_facts h.sockets f in
     let k = (hearing h.sockets f).at in
-    cond_cases (eqb (hearing h.sockets f).number 27) _ _ (Heard h f)
+    cond_both (eqb (hearing h.sockets f).number 27) _ _ (Heard h f)
     (λ e. let p = n.2 (eqb-true _ _ e) in
     record {
       sound = error_kept h g k (picked_small h.sockets (turned f) k p) (picked_live h (turned f) k p);
@@ -128,7 +128,7 @@ module _ (w : World) (g : Sound w.host) (picked : ℕ → Type 0) (d : Datagram)
   pub either_dealt : (n : ℕ) (b : List ℕ) (o : Outcome) → (not (eqb n 20) && not (eqb n 22)) ≡ true → gone n ≡ [] → (n ≡ 0 → Dealt w picked d f gone o) → Dealt w picked d f gone (unless n w.host w.bytes b o)
   unfolding unless
   either_dealt n b o q z body =
-      cond_cases (eqb n 0) o (gives w.host (plain n) w.bytes b) (Dealt w picked d f gone) (λ e. body (eqb-true _ _ e))
+      cond_both (eqb n 0) o (gives w.host (plain n) w.bytes b) (Dealt w picked d f gone) (λ e. body (eqb-true _ _ e))
       (λ e. idle n b (not-true _ (and_left (not (eqb n 20)) _ q)) (not-true _ (and_right (not (eqb n 20)) _ q)) z)
 
 -- ---- a landing in a host
@@ -171,7 +171,7 @@ module _ (w : World) (g : Sound w.host) where
   datagram_dealt f p =
       either_dealt w g (Picks h.sockets f) (arriving_as w f p) f (λ n. []) _ [] _ (rows_all (λ n. not (eqb n 20) && not (eqb n 22)) (datagram_rows h (length s) f (length p)) 0 refl refl) refl
       (λ e. let a = arrivable h (length s) f (length p) refl e in
-      landed_dealt a.0.room (arriving_as w f p) _ (or_two (loopback f.dst) _ a.1)
+      landed_dealt a.0.room (arriving_as w f p) _ (or_right (loopback f.dst) _ a.1)
       (landing_facts h.sockets h.queues g.queues h.out g.out s a.0.room _ p g.formed.counts refl a.2 g.formed.outcount true))
 
 -- ---- an arriving notice
@@ -186,6 +186,6 @@ pub record Quiet (w : World) (picked : ℕ → Type 0) (o : Outcome) : Type 0 wh
 pub notice_quiet : (w : World) → Sound w.host → (src dst : ℕ) (f : Flow) → Quiet w (Picks w.host.sockets (turned f)) (noticed w.host w.bytes src dst f)
 unfolding noticed unless
 notice_quiet w g src dst f =
-    cond_cases (eqb (first (notice_rows w.host (length w.bytes) src dst f)) 0) _ _ (Quiet w (Picks w.host.sockets (turned f)))
+    cond_both (eqb (first (notice_rows w.host (length w.bytes) src dst f)) 0) _ _ (Quiet w (Picks w.host.sockets (turned f)))
     (λ e. let x = heard_facts w.host g f in record { sound = x.sound; bytes = refl; queues = x.queues; out = x.out; others = x.others })
     (λ e. record { sound = g; bytes = refl; queues = refl; out = refl; others = λ l d. refl })

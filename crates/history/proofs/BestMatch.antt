@@ -7,7 +7,8 @@ use mathlib.Core.Bool.{Bool, true, false, ◌&&◌, cond}
 use Prim.Native.Nat.{ℕ, ◌<◌, ◌≤◌}
 use lib.Dec.{eqb}
 use borrow.Author.Tests.{eqb-true}
-use Rattle.laws.proofs.Tests.{two, and_left, and_right}
+use Rattle.std.proofs.lemmas.Bool.{cases_Bool}
+use Rattle.laws.proofs.Tests.{and_left, and_right}
 use Rattle.net.specs.declared.Flow.{Flow}
 use Rattle.state.specs.declared.Interface.{Interface}
 use Rattle.state.specs.declared.Socket.{Socket}
@@ -54,7 +55,7 @@ one w t l a d e f =
     let i : l ≡ a.descriptor.0 = eqb-true _ _ (and_right (eqb a.number 20) _ c) in
     inr (d, e ∙ ap (λ (b : Bool). cond b (d ∷ []) []) c, rw i (f (eqb-true _ _ (and_left (eqb a.number 20) _ c)))))
     (λ (c : (eqb a.number 20 && eqb l a.descriptor.0) ≡ false). inl (e ∙ ap (λ (b : Bool). cond b (d ∷ []) []) c))
-    (two (eqb a.number 20 && eqb l a.descriptor.0))
+    (cases_Bool (eqb a.number 20 && eqb l a.descriptor.0))
 
 pub step_best : (w : World) → Good w → (t : Step) (l : ℕ) → WellDelivered w t l
 unfolding after

@@ -9,7 +9,7 @@ use native.Mathlib.Omega.{arith}
 use lib.Dec.{eqb, ltb}
 use lib.ListN.{length}
 use borrow.Author.Tests.{eqb-true, eqb-false, not-true}
-use Rattle.laws.proofs.Tests.{cond_cases}
+use Rattle.std.proofs.lemmas.Bool.{cond_both}
 use Rattle.laws.specs.Places.{part}
 use Rattle.net.specs.Address.{loopback, martian}
 use Rattle.net.specs.declared.Flow.{Flow}
@@ -62,7 +62,7 @@ module _ (w : World) (b : List ℕ) where
 
   otherwise_if : (n : ℕ) (o : Outcome) → (n ≡ 0 → Refusal w b o) → Refusal w b (unless n w.host w.bytes b o)
   unfolding unless
-  otherwise_if n o f = cond_cases (eqb n 0) o (gives w.host (plain n) w.bytes b) (Refusal w b) (λ e. f (eqb-true _ _ e)) (λ e. nothing (plain n))
+  otherwise_if n o f = cond_both (eqb n 0) o (gives w.host (plain n) w.bytes b) (Refusal w b) (λ e. f (eqb-true _ _ e)) (λ e. nothing (plain n))
 
   otherwise : (n : ℕ) (o : Outcome) → Refusal w b o → Refusal w b (unless n w.host w.bytes b o)
   otherwise n o f = otherwise_if n o (λ e. f)
@@ -73,7 +73,7 @@ module _ (w : World) (b : List ℕ) where
 
   taken_refusal : (k : ℕ) (t : Thread) → Refusal w b (oldest_taken w.host w.bytes k b t)
   unfolding oldest_taken
-  taken_refusal k t = cond_cases (ltb (length b) (first_head w.host.queues k).len) _ _ (Refusal w b) (λ e. nothing _) (λ e. allowed _ _ _ _ (λ x y z. omega arith))
+  taken_refusal k t = cond_both (ltb (length b) (first_head w.host.queues k).len) _ _ (Refusal w b) (λ e. nothing _) (λ e. allowed _ _ _ _ (λ x y z. omega arith))
 
 -- ---- arrivals and the out step answer 20 or more once their rows are passed
 
@@ -83,17 +83,17 @@ landed_late h s x o may room =
 
 heard_late : (h : Host) (f : Flow) → 20 ≤ (heard_step h f).answer.number
 unfolding heard_step
-heard_late h f = cond_cases (eqb (hearing h.sockets f).number 27) _ _ (λ (r : Stepped). 20 ≤ r.answer.number) (λ e. omega arith) (λ e. omega (arith, (hearing_facts h.sockets f).0))
+heard_late h f = cond_both (eqb (hearing h.sockets f).number 27) _ _ (λ (r : Stepped). 20 ≤ r.answer.number) (λ e. omega arith) (λ e. omega (arith, (hearing_facts h.sockets f).0))
 
 leaving_late : (h : Host) (s b : List ℕ) → Leaving h s (length b) → 20 ≤ (leaving h s b).answer.number
 unfolding leaving handled_inside
 leaving_late h s b v =
-    cond_cases (loopback (destination_of (oldest_item h))) _ _ (λ (o : Outcome). 20 ≤ o.answer.number)
-    (λ e. cond_cases (eqb (oldest_item h).kind 0) _ _ (λ (o : Outcome). 20 ≤ o.answer.number)
+    cond_both (loopback (destination_of (oldest_item h))) _ _ (λ (o : Outcome). 20 ≤ o.answer.number)
+    (λ e. cond_both (eqb (oldest_item h).kind 0) _ _ (λ (o : Outcome). 20 ≤ o.answer.number)
     (λ k. landed_late h (bytes_without h s) (record { head = loop_head (oldest_item h); bytes = part s 32768 (oldest_item h).len }) (without_first h.out) _
     (popped_length s 32768 h.out.count v.some.some (omega (arith, v.some.few, v.some.store)) ∙ v.some.store))
     (λ k. heard_late _ _))
-    (λ e. cond_cases (martian (destination_of (oldest_item h))) _ _ (λ (o : Outcome). 20 ≤ o.answer.number) (λ m. omega arith) (λ m. omega arith))
+    (λ e. cond_both (martian (destination_of (oldest_item h))) _ _ (λ (o : Outcome). 20 ≤ o.answer.number) (λ m. omega arith) (λ m. omega arith))
 
 pub step_refusal : (w : World) (t : Step) → Refusal w (lent_by t) (after w t)
 unfolding after socketed bound connected disconnected local_given peer_given error_given option_given option_set sent queued_out received resumed resumed_on interrupted polled_of closed exited arrived noticed stepped
@@ -108,16 +108,16 @@ step_refusal w (getopt k o) = otherwise w [] _ _ (nothing w [] _)
 step_refusal w (setopt k o on) = otherwise w [] _ _ (allowed w [] _ _ _ _ (λ x y z. omega arith))
 step_refusal w (sendto k a p payload) =
     otherwise w [] _ _
-    (cond_cases (eqb (socket_at w.host k).error 0) _ _ (Refusal w []) (λ e. otherwise w [] _ _ (allowed w [] _ _ _ _ (λ x y z. omega arith))) (λ e. allowed w [] _ _ _ _ (λ x y z. z refl)))
+    (cond_both (eqb (socket_at w.host k).error 0) _ _ (Refusal w []) (λ e. otherwise w [] _ _ (allowed w [] _ _ _ _ (λ x y z. omega arith))) (λ e. allowed w [] _ _ _ _ (λ x y z. z refl)))
 step_refusal w (recvfrom k nonblocking b) =
     otherwise w b _ _
-    (cond_cases (not (eqb (socket_at w.host k).error 0)) _ _ (Refusal w b) (λ e. allowed w b _ _ _ _ (λ x y z. z refl))
-    (λ e. cond_cases (not (eqb (count_at w.host k) 0)) _ _ (Refusal w b) (λ f. taken_refusal w b k w.host.thread)
-    (λ f. cond_cases nonblocking _ _ (Refusal w b) (λ i. nothing w b (plain 14)) (λ i. allowed w b _ _ _ _ (λ x y z. omega arith)))))
+    (cond_both (not (eqb (socket_at w.host k).error 0)) _ _ (Refusal w b) (λ e. allowed w b _ _ _ _ (λ x y z. z refl))
+    (λ e. cond_both (not (eqb (count_at w.host k) 0)) _ _ (Refusal w b) (λ f. taken_refusal w b k w.host.thread)
+    (λ f. cond_both nonblocking _ _ (Refusal w b) (λ i. nothing w b (plain 14)) (λ i. allowed w b _ _ _ _ (λ x y z. omega arith)))))
 step_refusal w (resume b) =
     otherwise w b _ _
-    (cond_cases (not (eqb (socket_at w.host (awaited_by w.host.thread)).error 0)) _ _ (Refusal w b) (λ e. allowed w b _ _ _ _ (λ x y z. z refl))
-    (λ e. cond_cases (not (eqb (count_at w.host (awaited_by w.host.thread)) 0)) _ _ (Refusal w b) (λ f. taken_refusal w b _ _) (λ f. nothing w b (plain 18))))
+    (cond_both (not (eqb (socket_at w.host (awaited_by w.host.thread)).error 0)) _ _ (Refusal w b) (λ e. allowed w b _ _ _ _ (λ x y z. z refl))
+    (λ e. cond_both (not (eqb (count_at w.host (awaited_by w.host.thread)) 0)) _ _ (Refusal w b) (λ f. taken_refusal w b _ _) (λ f. nothing w b (plain 18))))
 step_refusal w interrupt = otherwise w [] _ _ (allowed w [] _ _ _ _ (λ x y z. omega arith))
 step_refusal w (poll r v) = otherwise w [] _ _ (nothing w [] _)
 step_refusal w (close k) = otherwise w [] _ _ (allowed w [] _ _ _ _ (λ x y z. omega arith))
@@ -141,7 +141,7 @@ module _ (w : World) where
 
   either_idle : (P : ℕ → Type 0) (n : ℕ) (o : Outcome) → (n ≡ 0 → P o.answer.number → Unchanged w [] o) → P (unless n w.host w.bytes [] o).answer.number → Unchanged w [] (unless n w.host w.bytes [] o)
   unfolding unless
-  either_idle P n o f = cond_cases (eqb n 0) o (gives w.host (plain n) w.bytes []) (λ (x : Outcome). P x.answer.number → Unchanged w [] x) (λ e. f (eqb-true _ _ e)) (λ e a. record { host = refl; bytes = refl; lent = refl })
+  either_idle P n o f = cond_both (eqb n 0) o (gives w.host (plain n) w.bytes []) (λ (x : Outcome). P x.answer.number → Unchanged w [] x) (λ e. f (eqb-true _ _ e)) (λ e a. record { host = refl; bytes = refl; lent = refl })
 
   pub datagram_unchanged : (f : Flow) (p : List ℕ) → ((after w (datagram f p)).answer.number ≢ 20) × ((after w (datagram f p)).answer.number ≢ 22) → Unchanged w [] (after w (datagram f p))
   unfolding after arrived
@@ -151,7 +151,7 @@ module _ (w : World) where
   heard_idle : (f : Flow) → (heard_step w.host f).answer.number ≢ 27 → Unchanged w [] (outcome (heard_step w.host f) w.bytes [])
   unfolding heard_step
   heard_idle f =
-      cond_cases (eqb (hearing w.host.sockets f).number 27) _ _ (λ (r : Stepped). r.answer.number ≢ 27 → Unchanged w [] (outcome r w.bytes []))
+      cond_both (eqb (hearing w.host.sockets f).number 27) _ _ (λ (r : Stepped). r.answer.number ≢ 27 → Unchanged w [] (outcome r w.bytes []))
       (λ x a. absurd (a refl)) (λ x a. record { host = refl; bytes = refl; lent = refl })
 
   pub notice_unchanged : (src dst : ℕ) (f : Flow) → (after w (notice src dst f)).answer.number ≢ 27 → Unchanged w [] (after w (notice src dst f))
@@ -169,18 +169,18 @@ module _ (w : World) (m : Host) (b : List ℕ) where
 
   either_tells : (n : ℕ) (o : Outcome) → n ≢ 10 → Tells o → Tells (unless n w.host w.bytes b o)
   unfolding unless
-  either_tells n o d f = cond_cases (eqb n 0) o (gives w.host (plain n) w.bytes b) Tells (λ e. f) (λ e z. absurd (d z))
+  either_tells n o d f = cond_both (eqb n 0) o (gives w.host (plain n) w.bytes b) Tells (λ e. f) (λ e z. absurd (d z))
 
   taken_tells : (k : ℕ) (t : Thread) → Tells (oldest_taken w.host w.bytes k b t)
   unfolding oldest_taken
-  taken_tells k t = cond_cases (ltb (length b) (first_head w.host.queues k).len) _ _ Tells (λ e z. absurd (omega (arith, z))) (λ e z. absurd (omega (arith, z)))
+  taken_tells k t = cond_both (ltb (length b) (first_head w.host.queues k).len) _ _ Tells (λ e z. absurd (omega (arith, z))) (λ e z. absurd (omega (arith, z)))
 
 pub sendto_told : (w : World) (k a : ℕ) (p : Port) (payload : List ℕ) → (after w (sendto k a p payload)).answer.number ≡ 10 → Told w (without_error w.host k) [] (after w (sendto k a p payload))
 unfolding after sent queued_out
 sendto_told w k a p payload =
     let m = without_error w.host k in
     either_tells w m [] _ _ (not_ten (call_rows w.host (length w.bytes) k) refl)
-    (cond_cases (eqb (socket_at w.host k).error 0) _ _ (Tells w m [])
+    (cond_both (eqb (socket_at w.host k).error 0) _ _ (Tells w m [])
     (λ e. either_tells w m [] _ _ (not_ten (send_rows w.host k a p (length payload)) refl) (λ z. absurd (omega (arith, z))))
     (λ e z. record { host = refl; bytes = refl; lent = refl }))
 
@@ -189,9 +189,9 @@ unfolding after received
 recvfrom_told w k nonblocking b =
     let m = without_error w.host k in
     either_tells w m b _ _ (not_ten (call_rows w.host (length w.bytes) k) refl)
-    (cond_cases (not (eqb (socket_at w.host k).error 0)) _ _ (Tells w m b) (λ e z. record { host = refl; bytes = refl; lent = refl })
-    (λ e. cond_cases (not (eqb (count_at w.host k) 0)) _ _ (Tells w m b) (λ f. taken_tells w m b k w.host.thread)
-    (λ f. cond_cases nonblocking _ _ (Tells w m b) (λ i z. absurd (omega (arith, z))) (λ i z. absurd (omega (arith, z))))))
+    (cond_both (not (eqb (socket_at w.host k).error 0)) _ _ (Tells w m b) (λ e z. record { host = refl; bytes = refl; lent = refl })
+    (λ e. cond_both (not (eqb (count_at w.host k) 0)) _ _ (Tells w m b) (λ f. taken_tells w m b k w.host.thread)
+    (λ f. cond_both nonblocking _ _ (Tells w m b) (λ i z. absurd (omega (arith, z))) (λ i z. absurd (omega (arith, z))))))
 
 pub resume_told : (w : World) (b : List ℕ) → (after w (resume b)).answer.number ≡ 10 → Told w (with_thread (without_error w.host (awaited_by w.host.thread)) Running) b (after w (resume b))
 unfolding after resumed resumed_on
@@ -199,5 +199,5 @@ resume_told w b =
     let k = awaited_by w.host.thread in
     let m = with_thread (without_error w.host k) Running in
     either_tells w m b _ _ (not_ten (alive_rows w.host (length w.bytes) ++ ((not (waiting w.host.thread), 6) ∷ [])) refl)
-    (cond_cases (not (eqb (socket_at w.host k).error 0)) _ _ (Tells w m b) (λ e z. record { host = refl; bytes = refl; lent = refl })
-    (λ e. cond_cases (not (eqb (count_at w.host k) 0)) _ _ (Tells w m b) (λ f. taken_tells w m b k Running) (λ f z. absurd (omega (arith, z)))))
+    (cond_both (not (eqb (socket_at w.host k).error 0)) _ _ (Tells w m b) (λ e z. record { host = refl; bytes = refl; lent = refl })
+    (λ e. cond_both (not (eqb (count_at w.host k) 0)) _ _ (Tells w m b) (λ f. taken_tells w m b k Running) (λ f z. absurd (omega (arith, z)))))

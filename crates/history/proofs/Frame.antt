@@ -8,7 +8,7 @@ use Prim.Native.Nat.{ℕ, ◌<◌}
 use lib.Dec.{eqb, ltb}
 use lib.ListN.{length}
 use borrow.Author.Tests.{eqb-true, eqb-false, not-true}
-use Rattle.laws.proofs.Tests.{cond_cases}
+use Rattle.std.proofs.lemmas.Bool.{cond_both}
 use Rattle.net.specs.declared.Port.{Port}
 use Rattle.state.specs.declared.Socket.{Socket}
 use Rattle.state.specs.declared.Thread.{Thread}
@@ -50,7 +50,7 @@ module _ (w : World) (l : ℕ) where
   -- a refusal, or what the step does
   either : (n : ℕ) (b : List ℕ) (o : Outcome) → (n ≡ 0 → Untouched w o l) → Untouched w (unless n w.host w.bytes b o) l
   unfolding unless
-  either n b o f = cond_cases (eqb n 0) o (gives w.host (plain n) w.bytes b) (λ (x : Outcome). Untouched w x l) (λ e. f (eqb-true _ _ e)) (λ e. kept (plain n) b)
+  either n b o f = cond_both (eqb n 0) o (gives w.host (plain n) w.bytes b) (λ (x : Outcome). Untouched w x l) (λ e. f (eqb-true _ _ e)) (λ e. kept (plain n) b)
 
   -- another socket k, and the thread
   other_socket : (k : ℕ) (t : Socket) (a : Answer) (b : List ℕ) → l ≢ k → Untouched w (gives (with_socket w.host k t) a w.bytes b) l
@@ -90,7 +90,7 @@ module _ (w : World) (g : Sound w.host) (l : ℕ) (hl : l < 16) where
   taken_frame : (k : ℕ) (b : List ℕ) (t : Thread) → Holding h (length s) k → l ≢ k → Untouched w (oldest_taken h s k b t) l
   unfolding oldest_taken
   taken_frame k b t x d =
-      cond_cases (ltb (length b) (first_head h.queues k).len) _ _ (λ (o : Outcome). Untouched w o l) (λ e. kept w l _ b)
+      cond_both (ltb (length b) (first_head h.queues k).len) _ _ (λ (o : Outcome). Untouched w o l) (λ e. kept w l _ b)
       (λ e. let q = holds_some x in other_queues w l _ t _ _ _ (take_else h.queues g.queues s k (record { small = x.small; some = q.0; few = q.1; store = x.ready.room }) l hl d))
 
   queued_frame : (k a : ℕ) (p : Port) (payload : List ℕ) → Ready h (length s) → l ≢ k → Untouched w (queued_out h s k a p payload) l
@@ -106,17 +106,17 @@ module _ (w : World) (g : Sound w.host) (l : ℕ) (hl : l < 16) where
   unfolding sent
   sendto_frame k a p payload d =
       either w l _ [] _
-      (λ e. cond_cases (eqb (socket_at h k).error 0) _ _ (λ (o : Outcome). Untouched w o l) (λ x. queued_frame k a p payload (called h (length s) k _ refl e).0.ready d) (λ x. other_socket w l k _ _ [] d))
+      (λ e. cond_both (eqb (socket_at h k).error 0) _ _ (λ (o : Outcome). Untouched w o l) (λ x. queued_frame k a p payload (called h (length s) k _ refl e).0.ready d) (λ x. other_socket w l k _ _ [] d))
 
   recvfrom_frame : (k : ℕ) (nonblocking : Bool) (b : List ℕ) → l ≢ k → Untouched w (received h s k nonblocking b) l
   unfolding received
   recvfrom_frame k nonblocking b d =
       either w l _ b _
       (λ e. let c = (called h (length s) k _ refl e).0 in
-      cond_cases (not (eqb (socket_at h k).error 0)) _ _ (λ (o : Outcome). Untouched w o l) (λ x. other_socket w l k _ _ b d)
-      (λ x. cond_cases (not (eqb (count_at h k) 0)) _ _ (λ (o : Outcome). Untouched w o l)
+      cond_both (not (eqb (socket_at h k).error 0)) _ _ (λ (o : Outcome). Untouched w o l) (λ x. other_socket w l k _ _ b d)
+      (λ x. cond_both (not (eqb (count_at h k) 0)) _ _ (λ (o : Outcome). Untouched w o l)
       (λ y. taken_frame k b h.thread (record { ready = c.ready; small = c.small; some = eqb-false _ _ (not-true _ y) }) d)
-      (λ y. cond_cases nonblocking _ _ (λ (o : Outcome). Untouched w o l) (λ z. kept w l (plain 14) b) (λ z. other_thread w l k _ _ (plain 18) b d))))
+      (λ y. cond_both nonblocking _ _ (λ (o : Outcome). Untouched w o l) (λ z. kept w l (plain 14) b) (λ z. other_thread w l k _ _ (plain 18) b d))))
 
   resume_frame : (b : List ℕ) → l ≢ awaited_by h.thread → Untouched w (resumed h s b) l
   unfolding resumed resumed_on
@@ -124,8 +124,8 @@ module _ (w : World) (g : Sound w.host) (l : ℕ) (hl : l < 16) where
       either w l _ b _
       (λ e. let r = resuming h (length s) refl e in
       let k = awaited_by h.thread in
-      cond_cases (not (eqb (socket_at h k).error 0)) _ _ (λ (o : Outcome). Untouched w o l) (λ x. other_thread w l k _ Running (plain 10) b d)
-      (λ x. cond_cases (not (eqb (count_at h k) 0)) _ _ (λ (o : Outcome). Untouched w o l)
+      cond_both (not (eqb (socket_at h k).error 0)) _ _ (λ (o : Outcome). Untouched w o l) (λ x. other_thread w l k _ Running (plain 10) b d)
+      (λ x. cond_both (not (eqb (count_at h k) 0)) _ _ (λ (o : Outcome). Untouched w o l)
       (λ y. taken_frame k b Running (record { ready = r.0; small = r.1; some = eqb-false _ _ (not-true _ y) }) d)
       (λ y. kept w l (plain 18) b)))
 

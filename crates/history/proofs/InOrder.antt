@@ -8,7 +8,8 @@ use Prim.Native.Nat.{ℕ, ◌<◌}
 use lib.Dec.{eqb}
 use lib.ListN.{length}
 use borrow.Author.Tests.{eqb-true}
-use Rattle.laws.proofs.Tests.{two, cond_cases, and_left, and_right}
+use Rattle.std.proofs.lemmas.Bool.{cases_Bool, cond_both}
+use Rattle.laws.proofs.Tests.{and_left, and_right}
 use Rattle.state.specs.declared.Interface.{Interface}
 use Rattle.queues.specs.Held.{Datagram, held}
 use Rattle.queues.proofs.Held.{empty_held}
@@ -41,7 +42,7 @@ ReadIs w t l = (read_by w t l ≡ []) ⊎ ((read_by w t l ≡ first_of w l ∷ [
 booked_balanced : (w : World) → Good w → (t : Step) (l : ℕ) → l < 16 → (a : Account) → Balanced w l a → Balanced (next w t) l (booked w t l a)
 booked_balanced w g t l hl a b =
     let f = step_facts w g t in
-    cond_cases (restarts w t l) none (record { read = a.read ++ read_by w t l; delivered = a.delivered ++ delivered_by w t l }) (Balanced (next w t) l)
+    cond_both (restarts w t l) none (record { read = a.read ++ read_by w t l; delivered = a.delivered ++ delivered_by w t l }) (Balanced (next w t) l)
     (λ e. f.restart l hl e)
     (λ e. append_assoc a.read (read_by w t l) (holds (next w t) l)
     ∙ ap (λ (x : List Datagram). a.read ++ x) (sym (f.order l hl e))
@@ -57,7 +58,7 @@ run_balanced w g (t ∷ ts) l hl a b = run_balanced (next w t) (step_facts w g t
 opening_holds : (is : List Interface) (n : ℕ) (s : List ℕ) (l : ℕ) → l < 16 → holds (opening is n s) l ≡ []
 unfolding opened empty_host
 opening_holds is n s l hl =
-    cond_cases (eqb (opening_refusal is n (length s)) 0) _ _ (λ (o : Outcome). held o.host.queues o.bytes l ≡ []) (λ e. empty_held _ l hl) (λ e. empty_held _ l hl)
+    cond_both (eqb (opening_refusal is n (length s)) 0) _ _ (λ (o : Outcome). held o.host.queues o.bytes l ≡ []) (λ e. empty_held _ l hl) (λ e. empty_held _ l hl)
 
 pub in_order : InOrder
 in_order is n s a ts l hl = run_balanced (opening is n s) (opening_good is n s a) ts l hl none (opening_holds is n s l hl)
@@ -73,7 +74,7 @@ read_one w t l k r hands =
     let z : (after w t).answer.number ≡ 0 = eqb-true _ _ (and_right (eqb l k) _ e) in
     inr (r ∙ ap (λ (b : Bool). cond b (first_of w k ∷ []) []) e ∙ ap (λ (j : ℕ). first_of w j ∷ []) (sym i), rw i (hands z)))
     (λ (e : (eqb l k && eqb (after w t).answer.number 0) ≡ false). inl (r ∙ ap (λ (b : Bool). cond b (first_of w k ∷ []) []) e))
-    (two (eqb l k && eqb (after w t).answer.number 0))
+    (cases_Bool (eqb l k && eqb (after w t).answer.number 0))
 
 pub read_is : (w : World) → Good w → (t : Step) (l : ℕ) → ReadIs w t l
 read_is w g socket l = inl refl

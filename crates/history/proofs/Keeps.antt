@@ -9,10 +9,10 @@ use native.Mathlib.Omega.{arith}
 use lib.Dec.{eqb, ltb}
 use lib.ListN.{length}
 use borrow.Author.Tests.{eqb-true, eqb-false, not-true, not-false}
+use Rattle.std.proofs.lemmas.Bool.{and_from, cases_Bool, cases_eq, cond_both}
 use Rattle.laws.specs.Places.{copies}
-use Rattle.laws.proofs.Numbers.{same_or_not}
 use Rattle.laws.proofs.Splice.{length_copies, get_or_copies}
-use Rattle.laws.proofs.Tests.{two, not_both, cond_cases, and_both}
+use Rattle.laws.proofs.Tests.{not_both}
 use Rattle.net.specs.declared.Descriptor.{Descriptor}
 use Rattle.net.specs.declared.Port.{Port}
 use Rattle.state.specs.declared.Interface.{Interface}
@@ -66,7 +66,7 @@ use Rattle.history.proofs.Outsteps.{outstep_dealt}
 -- a step that refuses leaves the host as it was
 pub unless_keeps : {h : Host} → Sound h → (n : ℕ) (s b : List ℕ) (o : Outcome) → (n ≡ 0 → Sound o.host) → Sound (unless n h s b o).host
 unfolding unless
-unless_keeps {h} g n s b o f = cond_cases (eqb n 0) o (gives h (plain n) s b) (λ (x : Outcome). Sound x.host) (λ e. f (eqb-true _ _ e)) (λ e. g)
+unless_keeps {h} g n s b o f = cond_both (eqb n 0) o (gives h (plain n) s b) (λ (x : Outcome). Sound x.host) (λ e. f (eqb-true _ _ e)) (λ e. g)
 
 -- nobody is waited on while the thread runs
 awake : {t : Thread} {A : Type 0} → t ≡ Running → (d : Descriptor) → t ≡ Waiting d → A
@@ -90,7 +90,7 @@ module _ {h : Host} (g : Sound h) where
     pub local_stands : {a ra : ℕ} {rp : Port} → (a ≡ old.laddr) ⊎ (old.laddr ≡ 0) → (rp.0 ≢ 0 → ra ≢ 0) → (ra ≢ 0 → a ≢ 0) → (a ≡ 0) ⊎ (ours h.interfaces a ≡ true)
         → Stands h.interfaces h.sockets k (with_remote (with_local old a (port_for h.sockets old.lport)) ra rp)
     local_stands {a} {ra} {rp} q peer remote mine =
-        cond_cases (eqb old.lport.0 0) (record { 0 = auto_port h.sockets }) old.lport
+        cond_both (eqb old.lport.0 0) (record { 0 = auto_port h.sockets }) old.lport
         (λ (p : Port). p.0 ≢ 0 → Stands h.interfaces h.sockets k (with_remote (with_local old a p) ra rp))
         (λ e n. auto_stands (fitting g) k hk live (record { peer = peer; remote = remote; local = λ x. n }) mine)
         (λ e n. linked_stands (fitting g) k hk live q (record { peer = peer; remote = remote; local = λ x. n }) mine)
@@ -121,18 +121,18 @@ bind_sound h s k a p g =
   where
     mine : (a : ℕ) → (not (eqb a 0) && not (ours h.interfaces a)) ≡ false → (a ≡ 0) ⊎ (ours h.interfaces a ≡ true)
     mine a e =
-        ⊎_elim (λ x. inl (eqb-true _ _ x)) (λ x. ⊎_elim (λ y. inr y) (λ y. not_both (and_both (not (eqb a 0)) (not (ours h.interfaces a)) (ap not x) (ap not y)) e) (two (ours h.interfaces a)))
-        (two (eqb a 0))
+        ⊎_elim (λ x. inl (eqb-true _ _ x)) (λ x. ⊎_elim (λ y. inr y) (λ y. not_both (and_from (not (eqb a 0)) (not (ours h.interfaces a)) (ap not x) (ap not y)) e) (cases_Bool (ours h.interfaces a)))
+        (cases_Bool (eqb a 0))
 
     named : k < 16 → (socket_at h k).live ≡ true → (socket_at h k).lport.0 ≡ 0 → (a ≡ 0) ⊎ (ours h.interfaces a ≡ true)
         → (not (eqb p.0 0) && in_use h.sockets k (socket_at h k).reuse a p.0) ≡ false
         → Stands h.interfaces h.sockets k (with_local (socket_at h k) a (port_for h.sockets p))
     named hk live z m free =
         let c = ((parts g).sockets k hk).chain in
-        cond_cases (eqb p.0 0) (record { 0 = auto_port h.sockets }) p
+        cond_both (eqb p.0 0) (record { 0 = auto_port h.sockets }) p
         (λ (q : Port). q.0 ≢ 0 → Stands h.interfaces h.sockets k (with_local (socket_at h k) a q))
         (λ e n. auto_stands (fitting g) k hk live (record { peer = c.peer; remote = λ x. absurd (c.local (c.remote x) z); local = λ x. n }) m)
-        (λ e n. bound_stands (fitting g) k hk live (⊎_elim (λ x. not_both (and_both (not (eqb p.0 0)) _ (ap not e) x) free) (λ x. x) (two (in_use h.sockets k (socket_at h k).reuse a p.0))) (record { peer = c.peer; remote = λ x. absurd (c.local (c.remote x) z); local = λ x. n }) m)
+        (λ e n. bound_stands (fitting g) k hk live (⊎_elim (λ x. not_both (and_from (not (eqb p.0 0)) _ (ap not e) x) free) (λ x. x) (cases_Bool (in_use h.sockets k (socket_at h k).reuse a p.0))) (record { peer = c.peer; remote = λ x. absurd (c.local (c.remote x) z); local = λ x. n }) m)
         (port_some h.sockets p)
 
 -- ---- connect, disconnect
@@ -140,7 +140,7 @@ bind_sound h s k a p g =
 -- the source that a socket sends from: its own, or the route's
 source_mine : (h : Host) → Sound h → (k dst : ℕ) → k < 16 → source_for h (socket_at h k) dst ≢ 0 → ours h.interfaces (source_for h (socket_at h k) dst) ≡ true
 source_mine h g k dst hk =
-    cond_cases (eqb (socket_at h k).laddr 0) _ _ (λ (a : ℕ). a ≢ 0 → ours h.interfaces a ≡ true)
+    cond_both (eqb (socket_at h k).laddr 0) _ _ (λ (a : ℕ). a ≢ 0 → ours h.interfaces a ≡ true)
     (λ e n. source_ours (parts g).opened dst n)
     (λ e n. ⊎_elim (λ z. absurd (n z)) (λ x. x) ((parts g).sockets k hk).local)
 
@@ -156,7 +156,7 @@ connect_sound h s k a p g =
     (local_stands g k c.0.small c.0.live (either (socket_at h k)) (λ n. some) (λ n. routed) (inr (source_mine h g k a c.0.small routed))))
   where
     either : (t : Socket) → (source_for h t a ≡ t.laddr) ⊎ (t.laddr ≡ 0)
-    either t = cond_cases (eqb t.laddr 0) _ _ (λ (x : ℕ). (x ≡ t.laddr) ⊎ (t.laddr ≡ 0)) (λ e. inr (eqb-true _ _ e)) (λ e. inl refl)
+    either t = cond_both (eqb t.laddr 0) _ _ (λ (x : ℕ). (x ≡ t.laddr) ⊎ (t.laddr ≡ 0)) (λ e. inr (eqb-true _ _ e)) (λ e. inl refl)
 
 disconnect_sound : (h : Host) (s : List ℕ) (k : ℕ) → Sound h → Sound (disconnected h s k).host
 unfolding disconnected
@@ -186,13 +186,13 @@ setopt_sound h s k o on g =
     (options_stands (fitting g) k c.0.small c.0.live _ _ (fair (socket_at h k) rows.0 rows.1.0)))
   where
     second : eqb o 1 ≡ false → unknown_option o ≡ false → eqb o 2 ≡ true
-    second e u = ⊎_elim (λ x. x) (λ x. absurd (false≢true (sym u ∙ ap (λ (b : Bool). not (b || eqb o 2)) e ∙ ap (λ (b : Bool). not (false || b)) x))) (two (eqb o 2))
+    second e u = ⊎_elim (λ x. x) (λ x. absurd (false≢true (sym u ∙ ap (λ (b : Bool). not (b || eqb o 2)) e ∙ ap (λ (b : Bool). not (false || b)) x))) (cases_Bool (eqb o 2))
 
     -- reuse stays, or there is no local port
     fair : (t : Socket) → unknown_option o ≡ false → (eqb o 2 && not (eqb t.lport.0 0)) ≡ false → (cond (eqb o 1) t.reuse on ≡ t.reuse) ⊎ (t.lport.0 ≡ 0)
     fair t known free =
-        cond_cases (eqb o 1) t.reuse on (λ (b : Bool). (b ≡ t.reuse) ⊎ (t.lport.0 ≡ 0)) (λ e. inl refl)
-        (λ e. ⊎_elim (λ x. inr (eqb-true _ _ x)) (λ x. not_both (and_both (eqb o 2) _ (second e known) (ap not x)) free) (two (eqb t.lport.0 0)))
+        cond_both (eqb o 1) t.reuse on (λ (b : Bool). (b ≡ t.reuse) ⊎ (t.lport.0 ≡ 0)) (λ e. inl refl)
+        (λ e. ⊎_elim (λ x. inr (eqb-true _ _ x)) (λ x. not_both (and_from (eqb o 2) _ (second e known) (ap not x)) free) (cases_Bool (eqb t.lport.0 0)))
 
 -- ---- sendto
 
@@ -227,7 +227,7 @@ unfolding sent
 sendto_sound h s k a p payload g =
     unless_keeps g _ s [] _
     (λ e. let c = (called h (length s) k _ refl e).0 in
-    cond_cases (eqb (socket_at h k).error 0) _ _ (λ (o : Outcome). Sound o.host) (λ x. queued_sound h s k a p payload g c) (λ x. error_cleared h s k g c))
+    cond_both (eqb (socket_at h k).error 0) _ _ (λ (o : Outcome). Sound o.host) (λ x. queued_sound h s k a p payload g c) (λ x. error_cleared h s k g c))
 
 -- ---- recvfrom, resume, interrupt
 
@@ -240,7 +240,7 @@ queues_sockets h q t a = a
 taken_sound : (h : Host) (s : List ℕ) (k : ℕ) (b : List ℕ) (t : Thread) → Sound h → Holding h (length s) k → (socket_at h k).live ≡ true → Awaited h.sockets t → Sound (oldest_taken h s k b t).host
 unfolding oldest_taken
 taken_sound h s k b t g w live a =
-    cond_cases (ltb (length b) (first_head h.queues k).len) _ _ (λ (o : Outcome). Sound o.host) (λ e. g)
+    cond_both (ltb (length b) (first_head h.queues k).len) _ _ (λ (o : Outcome). Sound o.host) (λ e. g)
     (λ e. thread_kept (queues_kept g (take_sized h.queues g.queues s k some) each) (queues_sockets h _ t a))
   where
     some : Some h.queues s k
@@ -251,7 +251,7 @@ taken_sound h s k b t g w live a =
         ⊎_elim
         (λ (e : l ≡ k). rw (e, live) (take_fit h.queues g.queues s k some (rw live at ((parts g).queues k w.small))))
         (λ (d : l ≢ k). fit_same (take_else h.queues g.queues s k some l hl d) ((parts g).queues l hl))
-        (same_or_not l k)
+        (cases_eq l k)
 
 -- socket k after it was replaced
 placed : (h : Host) (k : ℕ) (t : Socket) → length h.sockets ≡ 16 → k < 16 → socket_at (with_socket h k t) k ≡ t
@@ -289,8 +289,8 @@ awaited_live h g = on h.thread (parts g).awaited
 resumed_on_lem : (h : Host) (s : List ℕ) (k : ℕ) (b : List ℕ) → Sound h → Ready h (length s) → k < 16 → (socket_at h k).live ≡ true → Sound (resumed_on h s k b).host
 unfolding resumed_on
 resumed_on_lem h s k b g r hk live =
-    cond_cases (not (eqb (socket_at h k).error 0)) _ _ (λ (o : Outcome). Sound o.host) (λ x. ended_wait h k g hk live)
-    (λ x. cond_cases (not (eqb (count_at h k) 0)) _ _ (λ (o : Outcome). Sound o.host)
+    cond_both (not (eqb (socket_at h k).error 0)) _ _ (λ (o : Outcome). Sound o.host) (λ x. ended_wait h k g hk live)
+    (λ x. cond_both (not (eqb (count_at h k) 0)) _ _ (λ (o : Outcome). Sound o.host)
     (λ y. taken_sound h s k b Running g (record { ready = r; small = hk; some = eqb-false _ _ (not-true _ y) }) live (nobody_awaited h.sockets))
     (λ y. g))
 
@@ -299,10 +299,10 @@ unfolding received
 recvfrom_sound h s k nonblocking b g =
     unless_keeps g _ s b _
     (λ e. let c = (called h (length s) k _ refl e).0 in
-    cond_cases (not (eqb (socket_at h k).error 0)) _ _ (λ (o : Outcome). Sound o.host) (λ x. error_cleared h s k g c)
-    (λ x. cond_cases (not (eqb (count_at h k) 0)) _ _ (λ (o : Outcome). Sound o.host)
+    cond_both (not (eqb (socket_at h k).error 0)) _ _ (λ (o : Outcome). Sound o.host) (λ x. error_cleared h s k g c)
+    (λ x. cond_both (not (eqb (count_at h k) 0)) _ _ (λ (o : Outcome). Sound o.host)
     (λ y. taken_sound h s k b h.thread g (record { ready = c.ready; small = c.small; some = eqb-false _ _ (not-true _ y) }) c.live (parts g).awaited)
-    (λ y. cond_cases nonblocking _ _ (λ (o : Outcome). Sound o.host) (λ z. g) (λ z. waits h s k g c))))
+    (λ y. cond_both nonblocking _ _ (λ (o : Outcome). Sound o.host) (λ z. g) (λ z. waits h s k g c))))
 
 resume_sound : (h : Host) (s b : List ℕ) → Sound h → Sound (resumed h s b).host
 unfolding resumed
@@ -350,7 +350,7 @@ close_sound h s k g =
     emptied_first : k < 16 → length s ≡ 40960 → Sound (with_queues h (without_any h.queues k))
     emptied_first hk room =
         queues_kept g (clear_sized h.queues g.queues s room k hk)
-        (λ l hl. ⊎_elim (λ (e : l ≡ k). rw e (clear_fit h.queues g.queues s room k hk (socket_at h k).live)) (λ (d : l ≢ k). fit_same (clear_else h.queues g.queues s room k hk l hl d) ((parts g).queues l hl)) (same_or_not l k))
+        (λ l hl. ⊎_elim (λ (e : l ≡ k). rw e (clear_fit h.queues g.queues s room k hk (socket_at h k).live)) (λ (d : l ≢ k). fit_same (clear_else h.queues g.queues s room k hk l hl d) ((parts g).queues l hl)) (cases_eq l k))
 
     gone : h.thread ≡ Running → k < 16 → length s ≡ 40960 → Sound (with_queues (with_socket h k no_socket) (without_any h.queues k))
     gone r hk room = closed_after h k (without_any h.queues k) r hk (emptied_first hk room) (clear_fit h.queues g.queues s room k hk false)
@@ -378,7 +378,7 @@ none_opened =
 pub opening_sound : (is : List Interface) (n : ℕ) (s : List ℕ) → Sound (opened is n s).host
 unfolding opened empty_host
 opening_sound is n s =
-    cond_cases (eqb (opening_refusal is n (length s)) 0) _ _ (λ (o : Outcome). Sound o.host)
+    cond_both (eqb (opening_refusal is n (length s)) 0) _ _ (λ (o : Outcome). Sound o.host)
     (λ e. let rows = (rows_passed ((not (eqb (length s) 40960), 2) ∷ (not (opening_ok is n), 17) ∷ []) 0 refl (eqb-true _ _ e)).0 in
     empty_sound is n no_items Running ((opened_is is n).says (not-false _ rows.1.0)) outs.empty_sized (outs.empty_fit is) (λ d x. absurd (false≢true (ap waiting x))))
     (λ e. empty_sound (copies no_interface 4) 0 no_items Ended none_opened outs.empty_sized (outs.empty_fit (copies no_interface 4)) (λ d x. absurd (false≢true (ap waiting x))))

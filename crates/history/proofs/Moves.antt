@@ -7,7 +7,7 @@ use mathlib.Core.Bool.{true, false≢true}
 use Prim.Native.Nat.{ℕ, ◌<◌}
 use native.Mathlib.Omega.{arith}
 use lib.ListN.{set}
-use Rattle.laws.proofs.Numbers.{same_or_not}
+use Rattle.std.proofs.lemmas.Bool.{cases_eq}
 use Rattle.net.specs.declared.Descriptor.{Descriptor}
 use Rattle.state.specs.declared.Socket.{Socket}
 use Rattle.state.specs.declared.Thread.{Thread}
@@ -62,7 +62,7 @@ module _ {h : Host} (g : Sound h) where
       there = socket_there h.sockets k s (omega (arith, g.sockets))
 
       queue : (l : ℕ) → l < 16 → QueueFit (socket_in (set h.sockets k s) l).live h.queues l
-      queue l hl = ⊎_elim (λ (e : l ≡ k). rw (e, there) f) (λ (d : l ≢ k). rw (socket_else h.sockets k s l d) (parts.queues l hl)) (same_or_not l k)
+      queue l hl = ⊎_elim (λ (e : l ≡ k). rw (e, there) f) (λ (d : l ≢ k). rw (socket_else h.sockets k s l d) (parts.queues l hl)) (cases_eq l k)
 
       await : Awaited (set h.sockets k s) h.thread
       await d e =
@@ -70,7 +70,7 @@ module _ {h : Host} (g : Sound h) where
           ⊎_elim
           (λ (x : d.0 ≡ k). let y = b d e x in record { small = old.small; live = rw (x, there) y.0; port = rw (x, there) y.1 })
           (λ (x : d.0 ≢ k). record { small = old.small; live = rw (socket_else h.sockets k s d.0 x) old.live; port = rw (socket_else h.sockets k s d.0 x) old.port })
-          (same_or_not d.0 k)
+          (cases_eq d.0 k)
 
   pub thread_kept : {t : Thread} → Awaited h.sockets t → Sound (with_thread h t)
   unfolding with_thread

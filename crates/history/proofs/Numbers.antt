@@ -9,8 +9,9 @@ use native.Mathlib.Omega.{arith}
 use lib.Dec.{eqb, ltb}
 use lib.ListN.{length}
 use borrow.Author.Tests.{eqb-true, eqb-false, eq-eqb}
+use Rattle.std.proofs.lemmas.Bool.{and_from, cond_both, or_cases}
 use Rattle.laws.specs.Places.{part}
-use Rattle.laws.proofs.Tests.{cond_cases, and_left, and_right, and_both, or_cases}
+use Rattle.laws.proofs.Tests.{and_left, and_right}
 use Rattle.net.specs.Address.{loopback, martian, stray}
 use Rattle.net.specs.declared.Flow.{Flow}
 use Rattle.state.specs.declared.Socket.{Socket}
@@ -26,9 +27,8 @@ use Rattle.queues.specs.Moves.{first_head}
 use Rattle.queues.specs.Held.{Datagram}
 use Rattle.outqueue.specs.declared.OutQueue.{OutQueue}
 use Rattle.outqueue.specs.Moves.{destination_of, without_first}
-use Rattle.delivery.specs.declared.Hearing.{Hearing}
 use Rattle.delivery.specs.Landing.{Landed, landing, loop_head}
-use Rattle.delivery.specs.Hearing.{sender_of, listens, hearing}
+use Rattle.delivery.specs.Hearing.{sender_of, listens, Sought, hearing}
 use Rattle.delivery.proofs.Cases.{landing_cases}
 use Rattle.host.specs.declared.Host.{Host}
 use Rattle.host.specs.declared.Stepped.{Stepped}
@@ -64,12 +64,12 @@ pick p k (x ∷ xs) a m =
 -- a table whose numbers are all in the list
 rows_in : (p : ℕ → Bool) (xs : List ℕ) (rs : List (Bool × ℕ)) → each p xs ≡ true → all_rows (λ n. among n xs) rs ≡ true → all_rows p rs ≡ true
 rows_in p xs [] a m = refl
-rows_in p xs (r ∷ rs) a m = and_both (p r.1) _ (pick p r.1 xs a (and_left (among r.1 xs) _ m)) (rows_in p xs rs a (and_right (among r.1 xs) _ m))
+rows_in p xs (r ∷ rs) a m = and_from (p r.1) _ (pick p r.1 xs a (and_left (among r.1 xs) _ m)) (rows_in p xs rs a (and_right (among r.1 xs) _ m))
 
 -- a refusal is a row's number
 rows_some : (p : ℕ → Bool) (rs : List (Bool × ℕ)) → all_rows p rs ≡ true → first_or rs 0 ≢ 0 → p (first_or rs 0) ≡ true
 rows_some p [] a = λ d. absurd (d refl)
-rows_some p (r ∷ rs) a = cond_cases r.0 r.1 (first_or rs 0) (λ x. x ≢ 0 → p x ≡ true) (λ c d. and_left (p r.1) _ a) (λ c. rows_some p rs (and_right (p r.1) _ a))
+rows_some p (r ∷ rs) a = cond_both r.0 r.1 (first_or rs 0) (λ x. x ≢ 0 → p x ≡ true) (λ c d. and_left (p r.1) _ a) (λ c. rows_some p rs (and_right (p r.1) _ a))
 
 module _ (w : World) (g : Good w) (p : ℕ → Bool) (three : ended w.host.thread ≡ true → p 3 ≡ true) (four : waiting w.host.thread ≡ true → p 4 ≡ true) where
   abbrev h : Host
@@ -87,7 +87,7 @@ module _ (w : World) (g : Good w) (p : ℕ → Bool) (three : ended w.host.threa
 
   unless_listed : (n : ℕ) (b : List ℕ) (o : Outcome) → (n ≢ 0 → p n ≡ true) → (n ≡ 0 → Listed o) → Listed (unless n h s b o)
   unfolding unless
-  unless_listed n b o r f = cond_cases (eqb n 0) o (gives h (plain n) s b) Listed (λ e. f (eqb-true _ _ e)) (λ e. r (eqb-false _ _ e))
+  unless_listed n b o r f = cond_both (eqb n 0) o (gives h (plain n) s b) Listed (λ e. f (eqb-true _ _ e)) (λ e. r (eqb-false _ _ e))
 
   -- the rows of a step behind 1 and 2, behind 3 too, behind 4 too
   ready_listed : (rs : List (Bool × ℕ)) → all_rows p rs ≡ true → first_or (ready_rows h (length s) ++ rs) 0 ≢ 0 → p (first_or (ready_rows h (length s) ++ rs) 0) ≡ true
@@ -95,13 +95,13 @@ module _ (w : World) (g : Good w) (p : ℕ → Bool) (three : ended w.host.threa
 
   alive_listed : (rs : List (Bool × ℕ)) → all_rows p rs ≡ true → first_or (alive_rows h (length s) ++ rs) 0 ≢ 0 → p (first_or (alive_rows h (length s) ++ rs) 0) ≡ true
   alive_listed rs a =
-      rw (passed ((ended h.thread, 3) ∷ rs)) (cond_cases (ended h.thread) 3 (first_or rs 0) (λ x. x ≢ 0 → p x ≡ true) (λ e d. three e) (λ e. rows_some p rs a))
+      rw (passed ((ended h.thread, 3) ∷ rs)) (cond_both (ended h.thread) 3 (first_or rs 0) (λ x. x ≢ 0 → p x ≡ true) (λ e d. three e) (λ e. rows_some p rs a))
 
   entry_listed : (rs : List (Bool × ℕ)) → all_rows p rs ≡ true → first_or (entry_rows h (length s) ++ rs) 0 ≢ 0 → p (first_or (entry_rows h (length s) ++ rs) 0) ≡ true
   entry_listed rs a =
       rw (passed ((ended h.thread, 3) ∷ (waiting h.thread, 4) ∷ rs))
-      (cond_cases (ended h.thread) 3 (cond (waiting h.thread) 4 (first_or rs 0)) (λ x. x ≢ 0 → p x ≡ true) (λ e d. three e)
-      (λ e. cond_cases (waiting h.thread) 4 (first_or rs 0) (λ x. x ≢ 0 → p x ≡ true) (λ f d. four f) (λ f. rows_some p rs a)))
+      (cond_both (ended h.thread) 3 (cond (waiting h.thread) 4 (first_or rs 0)) (λ x. x ≢ 0 → p x ≡ true) (λ e d. three e)
+      (λ e. cond_both (waiting h.thread) 4 (first_or rs 0) (λ x. x ≢ 0 → p x ≡ true) (λ f d. four f) (λ f. rows_some p rs a)))
 
   -- the numbers of a step that has the rows rs: behind 1 and 2, behind 3 too, behind 4 too, behind 5 too
   module _ (t : Step) (all : each p (numbers_of t) ≡ true) (b : List ℕ) (o : Outcome) where
@@ -124,17 +124,17 @@ module _ (w : World) (g : Good w) (p : ℕ → Bool) (three : ended w.host.threa
 
   taken_listed : (k : ℕ) (b : List ℕ) (t : Thread) → p 0 ≡ true → p 16 ≡ true → Listed (oldest_taken h s k b t)
   unfolding oldest_taken
-  taken_listed k b t z x = cond_cases (ltb (length b) (first_head h.queues k).len) _ _ Listed (λ e. x) (λ e. z)
+  taken_listed k b t z x = cond_both (ltb (length b) (first_head h.queues k).len) _ _ Listed (λ e. x) (λ e. z)
 
   hearing_listed : (ks : List Socket) (f : Flow) → p 27 ≡ true → p 28 ≡ true → p 29 ≡ true → p (hearing ks f).number ≡ true
   unfolding hearing
   hearing_listed ks f a b c =
-      cond_cases (eqb (sender_of ks f).score 0) _ _ (λ (x : Hearing). p x.number ≡ true) (λ e. c)
-      (λ e. cond_cases (listens (socket_in ks (sender_of ks f).at)) 27 28 (λ n. p n ≡ true) (λ z. a) (λ z. b))
+      cond_both (eqb (sender_of ks f).score 0) _ _ (λ (x : Sought). p x.number ≡ true) (λ e. c)
+      (λ e. cond_both (listens (socket_in ks (sender_of ks f).at)) 27 28 (λ n. p n ≡ true) (λ z. a) (λ z. b))
 
   heard_listed : (m : Host) (f : Flow) → p 27 ≡ true → p 28 ≡ true → p 29 ≡ true → p (heard_step m f).answer.number ≡ true
   unfolding heard_step
-  heard_listed m f a b c = cond_cases (eqb (hearing m.sockets f).number 27) _ _ (λ (r : Stepped). p r.answer.number ≡ true) (λ e. a) (λ e. hearing_listed m.sockets f a b c)
+  heard_listed m f a b c = cond_both (eqb (hearing m.sockets f).number 27) _ _ (λ (r : Stepped). p r.answer.number ≡ true) (λ e. a) (λ e. hearing_listed m.sockets f a b c)
 
   landed_listed : (o : OutQueue) (t : List ℕ) (x : Datagram) (may : Bool) → length t ≡ 40960 → each p (20 ∷ 21 ∷ 22 ∷ 23 ∷ []) ≡ true → p (landing h.sockets h.queues o t x.head x.bytes may).number ≡ true
   landed_listed o t x may room a =
@@ -148,20 +148,20 @@ module _ (w : World) (g : Good w) (p : ℕ → Bool) (three : ended w.host.threa
 
   four_of_lem : (t : Step) → each p (numbers_of t) ≡ true → each (λ n. among n (numbers_of t)) (20 ∷ 21 ∷ 22 ∷ 23 ∷ []) ≡ true → each p (20 ∷ 21 ∷ 22 ∷ 23 ∷ []) ≡ true
   four_of_lem t a i =
-      and_both (p 20) _ (pick p 20 (numbers_of t) a (pick (λ n. among n (numbers_of t)) 20 (20 ∷ 21 ∷ 22 ∷ 23 ∷ []) i refl))
-      (and_both (p 21) _ (pick p 21 (numbers_of t) a (pick (λ n. among n (numbers_of t)) 21 (20 ∷ 21 ∷ 22 ∷ 23 ∷ []) i refl))
-      (and_both (p 22) _ (pick p 22 (numbers_of t) a (pick (λ n. among n (numbers_of t)) 22 (20 ∷ 21 ∷ 22 ∷ 23 ∷ []) i refl))
-      (and_both (p 23) _ (pick p 23 (numbers_of t) a (pick (λ n. among n (numbers_of t)) 23 (20 ∷ 21 ∷ 22 ∷ 23 ∷ []) i refl)) refl)))
+      and_from (p 20) _ (pick p 20 (numbers_of t) a (pick (λ n. among n (numbers_of t)) 20 (20 ∷ 21 ∷ 22 ∷ 23 ∷ []) i refl))
+      (and_from (p 21) _ (pick p 21 (numbers_of t) a (pick (λ n. among n (numbers_of t)) 21 (20 ∷ 21 ∷ 22 ∷ 23 ∷ []) i refl))
+      (and_from (p 22) _ (pick p 22 (numbers_of t) a (pick (λ n. among n (numbers_of t)) 22 (20 ∷ 21 ∷ 22 ∷ 23 ∷ []) i refl))
+      (and_from (p 23) _ (pick p 23 (numbers_of t) a (pick (λ n. among n (numbers_of t)) 23 (20 ∷ 21 ∷ 22 ∷ 23 ∷ []) i refl)) refl)))
 
   leaving_listed : (b : List ℕ) → Leaving h s (length b) → each p (numbers_of (outstep b)) ≡ true → Listed (leaving h s b)
   unfolding leaving handled_inside
   leaving_listed b v a =
-      cond_cases (loopback (destination_of (oldest_item h))) _ _ Listed
-      (λ e. cond_cases (eqb (oldest_item h).kind 0) _ _ Listed
+      cond_both (loopback (destination_of (oldest_item h))) _ _ Listed
+      (λ e. cond_both (eqb (oldest_item h).kind 0) _ _ Listed
       (λ k. landed_listed (without_first h.out) (bytes_without h s) (record { head = loop_head (oldest_item h); bytes = part s 32768 (oldest_item h).len }) _
       (popped_length s 32768 h.out.count v.some.some (omega (arith, v.some.few, v.some.store)) ∙ v.some.store) (four_of_lem (outstep b) a refl))
       (λ k. heard_listed _ _ (of (outstep b) a 27 refl) (of (outstep b) a 28 refl) (of (outstep b) a 29 refl)))
-      (λ e. cond_cases (martian (destination_of (oldest_item h))) _ _ Listed (λ m. of (outstep b) a 32 refl) (λ m. of (outstep b) a 30 refl))
+      (λ e. cond_both (martian (destination_of (oldest_item h))) _ _ Listed (λ m. of (outstep b) a 32 refl) (λ m. of (outstep b) a 30 refl))
 
   -- ---- the theorem
 
@@ -180,18 +180,18 @@ module _ (w : World) (g : Good w) (p : ℕ → Bool) (three : ended w.host.threa
   step_listed (sendto k x q payload) a =
       let t = sendto k x q payload in
       call_step t a [] _ k [] refl
-      (cond_cases (eqb (socket_at h k).error 0) _ _ Listed
+      (cond_both (eqb (socket_at h k).error 0) _ _ Listed
       (λ e. unless_listed _ [] _ (rows_some p (send_rows h k x q (length payload)) (rows_in p (numbers_of t) (send_rows h k x q (length payload)) a refl)) (λ z. of t a 0 refl)) (λ e. of t a 10 refl))
   step_listed (recvfrom k nonblocking b) a =
       let t = recvfrom k nonblocking b in
       call_step t a b _ k [] refl
-      (cond_cases (not (eqb (socket_at h k).error 0)) _ _ Listed (λ e. of t a 10 refl)
-      (λ e. cond_cases (not (eqb (count_at h k) 0)) _ _ Listed (λ f. taken_listed k b h.thread (of t a 0 refl) (of t a 16 refl)) (λ f. cond_cases nonblocking _ _ Listed (λ i. of t a 14 refl) (λ i. of t a 18 refl))))
+      (cond_both (not (eqb (socket_at h k).error 0)) _ _ Listed (λ e. of t a 10 refl)
+      (λ e. cond_both (not (eqb (count_at h k) 0)) _ _ Listed (λ f. taken_listed k b h.thread (of t a 0 refl) (of t a 16 refl)) (λ f. cond_both nonblocking _ _ Listed (λ i. of t a 14 refl) (λ i. of t a 18 refl))))
   step_listed (resume b) a =
       let t = resume b in
       alive_step t a b _ ((not (waiting h.thread), 6) ∷ []) refl
-      (cond_cases (not (eqb (socket_at h (awaited_by h.thread)).error 0)) _ _ Listed (λ e. of t a 10 refl)
-      (λ e. cond_cases (not (eqb (count_at h (awaited_by h.thread)) 0)) _ _ Listed (λ f. taken_listed (awaited_by h.thread) b Running (of t a 0 refl) (of t a 16 refl)) (λ f. of t a 18 refl)))
+      (cond_both (not (eqb (socket_at h (awaited_by h.thread)).error 0)) _ _ Listed (λ e. of t a 10 refl)
+      (λ e. cond_both (not (eqb (count_at h (awaited_by h.thread)) 0)) _ _ Listed (λ f. taken_listed (awaited_by h.thread) b Running (of t a 0 refl) (of t a 16 refl)) (λ f. of t a 18 refl)))
   step_listed interrupt a = alive_step interrupt a [] _ ((not (waiting h.thread), 6) ∷ []) refl (of interrupt a 0 refl)
   step_listed (poll r v) a = entry_step (poll r v) a [] _ ((not (all_open h.sockets r && all_open h.sockets v), 5) ∷ []) refl (of (poll r v) a 0 refl)
   step_listed (close k) a = call_step (close k) a [] _ k [] refl (of (close k) a 0 refl)

@@ -3,9 +3,11 @@
 use mathlib.Core.Path.{◌≡◌, sym, ap, ◌∙◌}
 use mathlib.Core.List.{List, []}
 use mathlib.Core.Bool.{Bool}
+use Rattle.std.specs.Prelude.{Option, Result}
 use Prim.Native.Nat.{ℕ}
 use Rattle.delivery.specs.declared.Hearing.{Hearing}
 use Rattle.matching.specs.declared.Best.{Best}
+use Rattle.net.specs.declared.Descriptor.{Descriptor}
 use Rattle.net.specs.declared.Flow.{Flow}
 use Rattle.net.specs.declared.InterfaceId.{InterfaceId}
 use Rattle.net.specs.declared.Port.{Port}
@@ -14,11 +16,17 @@ use Rattle.queues.specs.declared.Queues.{Queues}
 use Rattle.state.specs.declared.Interface.{Interface}
 use Rattle.state.specs.declared.Socket.{Socket}
 use Rattle.answers.specs.declared.Answer.{Answer}
+use Rattle.answers.specs.declared.Refusal.{Refusal}
+use Rattle.answers.specs.declared.SocketOption.{SocketOption}
+use Rattle.answers.proofs.Refusals.{refused_once, named_once}
 use Rattle.queues.specs.Moves as queues
 use Rattle.outqueue.specs.Moves as out
+use Rattle.delivery.specs.declared.Landing.{Landing}
 use Rattle.delivery.specs.Landing.{Landed, landed}
+use Rattle.delivery.proofs.Told.{same_hearing, same_landing}
 use Rattle.host.specs.declared.Stepped.{Stepped}
 use Rattle.host.specs.Answers.{Outcome, outcome}
+use Rattle.net.proofs.UsizeFromDescriptor.from.Reads as net_usize_from_descriptor
 use Rattle.net.proofs.no_flow.Reads as net_no_flow
 use Rattle.net.proofs.is_loopback.Reads as net_is_loopback
 use Rattle.net.proofs.is_martian.Reads as net_is_martian
@@ -33,7 +41,6 @@ use Rattle.store.proofs.slot_read.Reads as store_slot_read
 use Rattle.state.proofs.interfaces.no_interface.Reads as state_interfaces_no_interface
 use Rattle.state.proofs.interfaces.has.Reads as state_interfaces_has
 use Rattle.state.proofs.interfaces.are_accepted.Reads as state_interfaces_are_accepted
-use Rattle.state.proofs.interfaces.is_ours_of.Reads as state_interfaces_is_ours_of
 use Rattle.state.proofs.interfaces.is_own.Reads as state_interfaces_is_own
 use Rattle.state.proofs.interfaces.is_ours.Reads as state_interfaces_is_ours
 use Rattle.state.proofs.interfaces.holder.Reads as state_interfaces_holder
@@ -45,6 +52,7 @@ use Rattle.state.proofs.sockets.is_open.Reads as state_sockets_is_open
 use Rattle.state.proofs.threads.is_thread.Reads as state_threads_is_thread
 use Rattle.state.proofs.threads.is_ended.Reads as state_threads_is_ended
 use Rattle.state.proofs.threads.is_waiting.Reads as state_threads_is_waiting
+use Rattle.state.proofs.threads.awaited.Reads as state_threads_awaited
 use Rattle.answers.proofs.numbered.Reads as answers_numbered
 use Rattle.answers.proofs.with_descriptor.Reads as answers_with_descriptor
 use Rattle.answers.proofs.with_pair.Reads as answers_with_pair
@@ -53,11 +61,14 @@ use Rattle.answers.proofs.with_need.Reads as answers_with_need
 use Rattle.answers.proofs.from_sender.Reads as answers_from_sender
 use Rattle.answers.proofs.with_masks.Reads as answers_with_masks
 use Rattle.answers.proofs.with_item.Reads as answers_with_item
+use Rattle.answers.proofs.refused.Reads as answers_refused
+use Rattle.answers.proofs.reported.Reads as answers_reported
+use Rattle.answers.proofs.SocketOptionTryFromU8.try_from.Reads as answers_option_try_from
 use Rattle.answers.proofs.tables.row.Reads as answers_tables_row
+use Rattle.answers.proofs.tables.refuse_if.Reads as answers_tables_refuse_if
 use Rattle.answers.proofs.tables.opening_rows.Reads as answers_tables_opening_rows
 use Rattle.answers.proofs.tables.bind_rows.Reads as answers_tables_bind_rows
 use Rattle.answers.proofs.tables.connect_rows.Reads as answers_tables_connect_rows
-use Rattle.answers.proofs.tables.is_unknown.Reads as answers_tables_is_unknown
 use Rattle.answers.proofs.tables.set_rows.Reads as answers_tables_set_rows
 use Rattle.answers.proofs.tables.send_rows.Reads as answers_tables_send_rows
 use Rattle.matching.proofs.ports.is_in_use.Reads as matching_ports_is_in_use
@@ -91,6 +102,7 @@ use Rattle.delivery.proofs.arrive.Reads as delivery_arrive
 use Rattle.delivery.proofs.loop_back.Reads as delivery_loop_back
 use Rattle.delivery.proofs.hear.Reads as delivery_hear
 use Rattle.host.proofs.Host.well_formed.Reads as host_well_formed
+use Rattle.host.proofs.Host.ready.Reads as host_ready
 use Rattle.host.proofs.Host.datagram.Reads as host_datagram
 use Rattle.host.proofs.Host.notice.Reads as host_notice
 use Rattle.host.proofs.Host.close.Reads as host_close
@@ -120,6 +132,7 @@ pub record Fixed {K : Type 0} {A R E : K → Type 0} {W : Type 0} (post : (k : K
 -- the table: what each view shows is the result, and every byte that the function may write
 pub record OneResult : Type 0 where
   -- net
+  pub net_usize_from_descriptor_once : Fixed {W = ℕ} net_usize_from_descriptor.Post (λ k a r e. r)
   pub net_no_flow_once : Fixed {W = Flow} net_no_flow.Post (λ k a r e. r)
   pub net_is_loopback_once : Fixed {W = Bool} net_is_loopback.Post (λ k a r e. r)
   pub net_is_martian_once : Fixed {W = Bool} net_is_martian.Post (λ k a r e. r)
@@ -136,7 +149,6 @@ pub record OneResult : Type 0 where
   pub state_interfaces_no_interface_once : Fixed {W = Interface} state_interfaces_no_interface.Post (λ k a r e. r)
   pub state_interfaces_has_once : Fixed {W = Bool} state_interfaces_has.Post (λ k a r e. r)
   pub state_interfaces_are_accepted_once : Fixed {W = Bool} state_interfaces_are_accepted.Post (λ k a r e. r)
-  pub state_interfaces_is_ours_of_once : Fixed {W = Bool} state_interfaces_is_ours_of.Post (λ k a r e. r)
   pub state_interfaces_is_own_once : Fixed {W = Bool} state_interfaces_is_own.Post (λ k a r e. r)
   pub state_interfaces_is_ours_once : Fixed {W = Bool} state_interfaces_is_ours.Post (λ k a r e. r)
   pub state_interfaces_holder_once : Fixed {W = InterfaceId} state_interfaces_holder.Post (λ k a r e. r)
@@ -148,7 +160,8 @@ pub record OneResult : Type 0 where
   pub state_threads_is_thread_once : Fixed {W = Bool} state_threads_is_thread.Post (λ k a r e. r)
   pub state_threads_is_ended_once : Fixed {W = Bool} state_threads_is_ended.Post (λ k a r e. r)
   pub state_threads_is_waiting_once : Fixed {W = Bool} state_threads_is_waiting.Post (λ k a r e. r)
-  -- matching
+  pub state_threads_awaited_once : Fixed {W = Option Descriptor} state_threads_awaited.Post (λ k a r e. r)
+  -- answers
   pub answers_numbered_once : Fixed {W = Answer} answers_numbered.Post (λ k a r e. r)
   pub answers_with_descriptor_once : Fixed {W = Answer} answers_with_descriptor.Post (λ k a r e. r)
   pub answers_with_pair_once : Fixed {W = Answer} answers_with_pair.Post (λ k a r e. r)
@@ -157,23 +170,27 @@ pub record OneResult : Type 0 where
   pub answers_from_sender_once : Fixed {W = Answer} answers_from_sender.Post (λ k a r e. r)
   pub answers_with_masks_once : Fixed {W = Answer} answers_with_masks.Post (λ k a r e. r)
   pub answers_with_item_once : Fixed {W = Answer} answers_with_item.Post (λ k a r e. r)
+  pub answers_refused_once : Fixed {W = Answer} answers_refused.Post (λ k a r e. r)
+  pub answers_reported_once : Fixed {W = Answer} answers_reported.Post (λ k a r e. r)
+  pub answers_option_try_from_once : Fixed {W = Result SocketOption Refusal} answers_option_try_from.Post (λ k a r e. r)
   pub answers_tables_row_once : Fixed {W = ℕ} answers_tables_row.Post (λ k a r e. r)
-  pub answers_tables_opening_rows_once : Fixed {W = ℕ} answers_tables_opening_rows.Post (λ k a r e. r)
-  pub answers_tables_bind_rows_once : Fixed {W = ℕ} answers_tables_bind_rows.Post (λ k a r e. r)
-  pub answers_tables_connect_rows_once : Fixed {W = ℕ} answers_tables_connect_rows.Post (λ k a r e. r)
-  pub answers_tables_is_unknown_once : Fixed {W = Bool} answers_tables_is_unknown.Post (λ k a r e. r)
-  pub answers_tables_set_rows_once : Fixed {W = ℕ} answers_tables_set_rows.Post (λ k a r e. r)
-  pub answers_tables_send_rows_once : Fixed {W = ℕ} answers_tables_send_rows.Post (λ k a r e. r)
+  pub answers_tables_refuse_if_once : Fixed {W = Result (Unit {0}) Refusal} answers_tables_refuse_if.Post (λ k a r e. r)
+  pub answers_tables_opening_rows_once : Fixed {W = Result (Unit {0}) Refusal} answers_tables_opening_rows.Post (λ k a r e. r)
+  pub answers_tables_bind_rows_once : Fixed {W = Result (Unit {0}) Refusal} answers_tables_bind_rows.Post (λ k a r e. r)
+  pub answers_tables_connect_rows_once : Fixed {W = Result (Unit {0}) Refusal} answers_tables_connect_rows.Post (λ k a r e. r)
+  pub answers_tables_set_rows_once : Fixed {W = Result SocketOption Refusal} answers_tables_set_rows.Post (λ k a r e. r)
+  pub answers_tables_send_rows_once : Fixed {W = Result (Unit {0}) Refusal} answers_tables_send_rows.Post (λ k a r e. r)
+  -- matching
   pub matching_ports_is_in_use_once : Fixed {W = Bool} matching_ports_is_in_use.Post (λ k a r e. r)
   pub matching_ports_is_port_free_once : Fixed {W = Bool} matching_ports_is_port_free.Post (λ k a r e. r)
   pub matching_ports_autobind_once : Fixed {W = ℕ} matching_ports_autobind.Post (λ k a r e. r.0)
   pub matching_routes_source_once : Fixed {W = ℕ} matching_routes_source.Post (λ k a r e. r)
   pub matching_scoring_score_once : Fixed {W = ℕ} matching_scoring_score.Post (λ k a r e. r)
-  pub matching_scoring_winner_once : Fixed {W = Best} matching_scoring_winner.Post (λ k a r e. r)
+  pub matching_scoring_winner_once : Fixed {W = Option Best} matching_scoring_winner.Post (λ k a r e. r)
   -- binding
   pub binding_new_socket_once : Fixed {W = Socket} binding_new_socket.Post (λ k a r e. r)
   pub binding_no_socket_once : Fixed {W = Socket} binding_no_socket.Post (λ k a r e. r)
-  pub binding_lowest_closed_once : Fixed {W = ℕ} binding_lowest_closed.Post (λ k a r e. r)
+  pub binding_lowest_closed_once : Fixed {W = Option ℕ} binding_lowest_closed.Post (λ k a r e. r)
   pub binding_with_local_once : Fixed {W = Socket} binding_with_local.Post (λ k a r e. r)
   pub binding_with_remote_once : Fixed {W = Socket} binding_with_remote.Post (λ k a r e. r)
   pub binding_with_error_once : Fixed {W = Socket} binding_with_error.Post (λ k a r e. r)
@@ -200,6 +217,7 @@ pub record OneResult : Type 0 where
   pub delivery_hear_once : Fixed {W = Hearing} delivery_hear.Post (λ k a r e. r)
   -- host
   pub host_well_formed_once : Fixed {W = Bool} host_well_formed.Post (λ k a r e. r)
+  pub host_ready_once : Fixed {W = Result (Unit {0}) Refusal} host_ready.Post (λ k a r e. r)
   pub host_datagram_once : Fixed {W = Outcome} host_datagram.Post (λ k a r e. outcome r e.1.0.now [])
   pub host_notice_once : Fixed {W = Outcome} host_notice.Post (λ k a r e. outcome r a.1.0.now [])
   pub host_close_once : Fixed {W = Outcome} host_close.Post (λ k a r e. outcome r e.1.0.now [])
@@ -226,6 +244,7 @@ pub record OneResult : Type 0 where
 pub one_result : OneResult
 one_result =
     record {
+      net_usize_from_descriptor_once = record { fixed = λ k a r r' e e' p q. p ∙ sym q };
       net_no_flow_once = record { fixed = λ k a r r' e e' p q. p ∙ sym q };
       net_is_loopback_once = record { fixed = λ k a r r' e e' p q. p ∙ sym q };
       net_is_martian_once = record { fixed = λ k a r r' e e' p q. p ∙ sym q };
@@ -240,7 +259,6 @@ one_result =
       state_interfaces_no_interface_once = record { fixed = λ k a r r' e e' p q. p ∙ sym q };
       state_interfaces_has_once = record { fixed = λ k a r r' e e' p q. p ∙ sym q };
       state_interfaces_are_accepted_once = record { fixed = λ k a r r' e e' p q. p ∙ sym q };
-      state_interfaces_is_ours_of_once = record { fixed = λ k a r r' e e' p q. p ∙ sym q };
       state_interfaces_is_own_once = record { fixed = λ k a r r' e e' p q. p ∙ sym q };
       state_interfaces_is_ours_once = record { fixed = λ k a r r' e e' p q. p ∙ sym q };
       state_interfaces_holder_once = record { fixed = λ k a r r' e e' p q. p ∙ sym q };
@@ -252,6 +270,7 @@ one_result =
       state_threads_is_thread_once = record { fixed = λ k a r r' e e' p q. p ∙ sym q };
       state_threads_is_ended_once = record { fixed = λ k a r r' e e' p q. p ∙ sym q };
       state_threads_is_waiting_once = record { fixed = λ k a r r' e e' p q. p ∙ sym q };
+      state_threads_awaited_once = record { fixed = λ k a r r' e e' p q. p ∙ sym q };
       answers_numbered_once = record { fixed = λ k a r r' e e' p q. p ∙ sym q };
       answers_with_descriptor_once = record { fixed = λ k a r r' e e' p q. p ∙ sym q };
       answers_with_pair_once = record { fixed = λ k a r r' e e' p q. p ∙ sym q };
@@ -260,13 +279,16 @@ one_result =
       answers_from_sender_once = record { fixed = λ k a r r' e e' p q. p ∙ sym q };
       answers_with_masks_once = record { fixed = λ k a r r' e e' p q. p ∙ sym q };
       answers_with_item_once = record { fixed = λ k a r r' e e' p q. p ∙ sym q };
+      answers_refused_once = record { fixed = λ k a r r' e e' p q. p ∙ sym q };
+      answers_reported_once = record { fixed = λ k a r r' e e' p q. p ∙ sym q };
+      answers_option_try_from_once = record { fixed = λ k a r r' e e' p q. p ∙ sym q };
       answers_tables_row_once = record { fixed = λ k a r r' e e' p q. p ∙ sym q };
-      answers_tables_opening_rows_once = record { fixed = λ k a r r' e e' p q. p ∙ sym q };
-      answers_tables_bind_rows_once = record { fixed = λ k a r r' e e' p q. p ∙ sym q };
-      answers_tables_connect_rows_once = record { fixed = λ k a r r' e e' p q. p ∙ sym q };
-      answers_tables_is_unknown_once = record { fixed = λ k a r r' e e' p q. p ∙ sym q };
-      answers_tables_set_rows_once = record { fixed = λ k a r r' e e' p q. p ∙ sym q };
-      answers_tables_send_rows_once = record { fixed = λ k a r r' e e' p q. p ∙ sym q };
+      answers_tables_refuse_if_once = record { fixed = λ k a r r' e e' p q. refused_once r r' (p ∙ sym q) };
+      answers_tables_opening_rows_once = record { fixed = λ k a r r' e e' p q. refused_once r r' (p ∙ sym q) };
+      answers_tables_bind_rows_once = record { fixed = λ k a r r' e e' p q. refused_once r r' (p ∙ sym q) };
+      answers_tables_connect_rows_once = record { fixed = λ k a r r' e e' p q. refused_once r r' (p ∙ sym q) };
+      answers_tables_set_rows_once = record { fixed = λ k a r r' e e' p q. named_once r r' a.1.0 (p.0 ∙ sym q.0) p.1 q.1 };
+      answers_tables_send_rows_once = record { fixed = λ k a r r' e e' p q. refused_once r r' (p ∙ sym q) };
       matching_ports_is_in_use_once = record { fixed = λ k a r r' e e' p q. p ∙ sym q };
       matching_ports_is_port_free_once = record { fixed = λ k a r r' e e' p q. p ∙ sym q };
       matching_ports_autobind_once = record { fixed = λ k a r r' e e' p q. p ∙ sym q };
@@ -296,8 +318,9 @@ one_result =
       outqueue_remove_once = record { fixed = λ k a r r' e e' p q. p ∙ sym q };
       delivery_arrive_once = record { fixed = λ k a r r' e e' p q. p ∙ sym q };
       delivery_loop_back_once = record { fixed = λ k a r r' e e' p q. p ∙ sym q };
-      delivery_hear_once = record { fixed = λ k a r r' e e' p q. p ∙ sym q };
+      delivery_hear_once = record { fixed = λ k a r r' e e' p q. same_hearing r r' (p ∙ sym q) };
       host_well_formed_once = record { fixed = λ k a r r' e e' p q. p ∙ sym q };
+      host_ready_once = record { fixed = λ k a r r' e e' p q. refused_once r r' (p ∙ sym q) };
       host_datagram_once = record { fixed = λ k a r r' e e' p q. p ∙ sym q };
       host_notice_once = record { fixed = λ k a r r' e e' p q. p ∙ sym q };
       host_close_once = record { fixed = λ k a r r' e e' p q. p ∙ sym q };
@@ -324,3 +347,6 @@ one_result =
 
 pub outcome_tells : {r r' : Stepped} {s s' b b' : List ℕ} → outcome r s b ≡ outcome r' s' b' → (r ≡ r') × (s ≡ s') × (b ≡ b')
 outcome_tells {r} {r'} e = (ap (λ (o : Outcome). record { host = o.host; answer = o.answer }) e, ap (λ (o : Outcome). o.bytes) e, ap (λ (o : Outcome). o.lent) e)
+
+pub landed_tells : {l m : Landing} {s t : List ℕ} → landed l s ≡ landed m t → (l ≡ m) × (s ≡ t)
+landed_tells {l} {m} {s} {t} e = same_landing l m s t e

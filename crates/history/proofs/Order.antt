@@ -9,8 +9,9 @@ use native.Mathlib.Omega.{arith}
 use lib.Dec.{eqb, ltb}
 use lib.ListN.{length}
 use borrow.Author.Tests.{eqb-true, eqb-false, not-true}
+use Rattle.std.proofs.lemmas.Bool.{cond_both}
 use Rattle.laws.specs.Places.{splice}
-use Rattle.laws.proofs.Tests.{cond_cases, and_left, and_right}
+use Rattle.laws.proofs.Tests.{and_left, and_right}
 use Rattle.net.specs.declared.Port.{Port}
 use Rattle.state.specs.declared.Socket.{Socket}
 use Rattle.state.specs.declared.Thread.{Thread}
@@ -70,11 +71,11 @@ module _ (w : World) (g : Sound w.host) where
 
   either_long : (n : ℕ) (b : List ℕ) (o : Outcome) → (n ≡ 0 → Long o) → Long (unless n w.host w.bytes b o)
   unfolding unless
-  either_long n b o f = cond_cases (eqb n 0) o (gives w.host (plain n) w.bytes b) Long (λ e. f (eqb-true _ _ e)) (λ e. refl)
+  either_long n b o f = cond_both (eqb n 0) o (gives w.host (plain n) w.bytes b) Long (λ e. f (eqb-true _ _ e)) (λ e. refl)
 
   taken_long : (k : ℕ) (b : List ℕ) (t : Thread) → Holding h (length s) k → Long (oldest_taken h s k b t)
   unfolding oldest_taken
-  taken_long k b t x = cond_cases (ltb (length b) (first_head h.queues k).len) _ _ Long (λ e. refl) (λ e. take-length h.queues g.queues s k (some_of x))
+  taken_long k b t x = cond_both (ltb (length b) (first_head h.queues k).len) _ _ Long (λ e. refl) (λ e. take-length h.queues g.queues s k (some_of x))
 
   queued_long : (k a : ℕ) (p : Port) (payload : List ℕ) → Ready h (length s) → Long (queued_out h s k a p payload)
   unfolding queued_out
@@ -86,16 +87,16 @@ module _ (w : World) (g : Sound w.host) where
   sendto_long : (k a : ℕ) (p : Port) (payload : List ℕ) → Long (sent h s k a p payload)
   unfolding sent
   sendto_long k a p payload =
-      either_long _ [] _ (λ e. cond_cases (eqb (socket_at h k).error 0) _ _ Long (λ x. queued_long k a p payload (called h (length s) k _ refl e).0.ready) (λ x. refl))
+      either_long _ [] _ (λ e. cond_both (eqb (socket_at h k).error 0) _ _ Long (λ x. queued_long k a p payload (called h (length s) k _ refl e).0.ready) (λ x. refl))
 
   recvfrom_long : (k : ℕ) (nonblocking : Bool) (b : List ℕ) → Long (received h s k nonblocking b)
   unfolding received
   recvfrom_long k nonblocking b =
       either_long _ b _
       (λ e. let c = (called h (length s) k _ refl e).0 in
-      cond_cases (not (eqb (socket_at h k).error 0)) _ _ Long (λ x. refl)
-      (λ x. cond_cases (not (eqb (count_at h k) 0)) _ _ Long (λ y. taken_long k b h.thread (record { ready = c.ready; small = c.small; some = eqb-false _ _ (not-true _ y) }))
-      (λ y. cond_cases nonblocking _ _ Long (λ z. refl) (λ z. refl))))
+      cond_both (not (eqb (socket_at h k).error 0)) _ _ Long (λ x. refl)
+      (λ x. cond_both (not (eqb (count_at h k) 0)) _ _ Long (λ y. taken_long k b h.thread (record { ready = c.ready; small = c.small; some = eqb-false _ _ (not-true _ y) }))
+      (λ y. cond_both nonblocking _ _ Long (λ z. refl) (λ z. refl))))
 
   resume_long : (b : List ℕ) → Long (resumed h s b)
   unfolding resumed resumed_on
@@ -103,8 +104,8 @@ module _ (w : World) (g : Sound w.host) where
       either_long _ b _
       (λ e. let r = resuming h (length s) refl e in
       let k = awaited_by h.thread in
-      cond_cases (not (eqb (socket_at h k).error 0)) _ _ Long (λ x. refl)
-      (λ x. cond_cases (not (eqb (count_at h k) 0)) _ _ Long (λ y. taken_long k b Running (record { ready = r.0; small = r.1; some = eqb-false _ _ (not-true _ y) })) (λ y. refl)))
+      cond_both (not (eqb (socket_at h k).error 0)) _ _ Long (λ x. refl)
+      (λ x. cond_both (not (eqb (count_at h k) 0)) _ _ Long (λ y. taken_long k b Running (record { ready = r.0; small = r.1; some = eqb-false _ _ (not-true _ y) })) (λ y. refl)))
 
 pub step_length : (w : World) (t : Step) → Sound w.host → length (after w t).bytes ≡ length w.bytes
 unfolding after socketed bound connected disconnected local_given peer_given error_given option_given option_set interrupted polled_of closed exited
@@ -145,12 +146,12 @@ module _ (w : World) (g : Sound w.host) where
 
   either_taken : (k n : ℕ) (b : List ℕ) (o : Outcome) → (n ≡ 0 → Taken k o) → Taken k (unless n w.host w.bytes b o)
   unfolding unless
-  either_taken k n b o f = cond_cases (eqb n 0) o (gives w.host (plain n) w.bytes b) (Taken k) (λ e. f (eqb-true _ _ e)) (λ e. unread k (plain n) w.host b refl e)
+  either_taken k n b o f = cond_both (eqb n 0) o (gives w.host (plain n) w.bytes b) (Taken k) (λ e. f (eqb-true _ _ e)) (λ e. unread k (plain n) w.host b refl e)
 
   oldest_taken_lem : (k : ℕ) (b : List ℕ) (t : Thread) → Holding w.host (length w.bytes) k → Taken k (oldest_taken w.host w.bytes k b t)
   unfolding oldest_taken with_thread with_queues
   oldest_taken_lem k b t x =
-      cond_cases (ltb (length b) (first_head w.host.queues k).len) _ _ (Taken k) (λ e. unread k (needing (first_head w.host.queues k).len) w.host b refl refl)
+      cond_both (ltb (length b) (first_head w.host.queues k).len) _ _ (Taken k) (λ e. unread k (needing (first_head w.host.queues k).len) w.host b refl refl)
       (λ e. take_held w.host.queues g.queues w.bytes k (some_of x))
 
   recvfrom_taken : (k : ℕ) (nonblocking : Bool) (b : List ℕ) → Taken k (received w.host w.bytes k nonblocking b)
@@ -158,10 +159,10 @@ module _ (w : World) (g : Sound w.host) where
   recvfrom_taken k nonblocking b =
       either_taken k _ b _
       (λ e. let c = (called w.host (length w.bytes) k _ refl e).0 in
-      cond_cases (not (eqb (socket_at w.host k).error 0)) _ _ (Taken k) (λ x. unread k (plain 10) (without_error w.host k) b refl refl)
-      (λ x. cond_cases (not (eqb (count_at w.host k) 0)) _ _ (Taken k)
+      cond_both (not (eqb (socket_at w.host k).error 0)) _ _ (Taken k) (λ x. unread k (plain 10) (without_error w.host k) b refl refl)
+      (λ x. cond_both (not (eqb (count_at w.host k) 0)) _ _ (Taken k)
       (λ y. oldest_taken_lem k b w.host.thread (record { ready = c.ready; small = c.small; some = eqb-false _ _ (not-true _ y) }))
-      (λ y. cond_cases nonblocking _ _ (Taken k) (λ z. unread k (plain 14) w.host b refl refl) (λ z. unread k (plain 18) (waiting_on w.host k) b refl refl))))
+      (λ y. cond_both nonblocking _ _ (Taken k) (λ z. unread k (plain 14) w.host b refl refl) (λ z. unread k (plain 18) (waiting_on w.host k) b refl refl))))
 
   resume_taken : (b : List ℕ) → Taken (awaited_by w.host.thread) (resumed w.host w.bytes b)
   unfolding resumed resumed_on with_socket with_thread
@@ -169,8 +170,8 @@ module _ (w : World) (g : Sound w.host) where
       let k = awaited_by w.host.thread in
       either_taken k _ b _
       (λ e. let r = resuming w.host (length w.bytes) refl e in
-      cond_cases (not (eqb (socket_at w.host k).error 0)) _ _ (Taken k) (λ x. unread k (plain 10) (with_thread (without_error w.host k) Running) b refl refl)
-      (λ x. cond_cases (not (eqb (count_at w.host k) 0)) _ _ (Taken k)
+      cond_both (not (eqb (socket_at w.host k).error 0)) _ _ (Taken k) (λ x. unread k (plain 10) (with_thread (without_error w.host k) Running) b refl refl)
+      (λ x. cond_both (not (eqb (count_at w.host k) 0)) _ _ (Taken k)
       (λ y. oldest_taken_lem k b Running (record { ready = r.0; small = r.1; some = eqb-false _ _ (not-true _ y) }))
       (λ y. unread k (plain 18) w.host b refl refl)))
 
@@ -182,7 +183,7 @@ module _ (w : World) (g : Sound w.host) (room : length w.bytes ≡ 40960) (l : �
   -- the same queues and bytes, or a refusal
   either_stays : (n : ℕ) (b : List ℕ) (o : Outcome) → (n ≡ 0 → Stays w l o) → Stays w l (unless n w.host w.bytes b o)
   unfolding unless
-  either_stays n b o f = cond_cases (eqb n 0) o (gives w.host (plain n) w.bytes b) (Stays w l) (λ e. f (eqb-true _ _ e)) (λ e. record { same = refl })
+  either_stays n b o f = cond_both (eqb n 0) o (gives w.host (plain n) w.bytes b) (Stays w l) (λ e. f (eqb-true _ _ e)) (λ e. record { same = refl })
 
   -- a socket that the step does not name
   other_stays : (t : Step) → (Named w t l → ⊥) → Stays w l (after w t)
@@ -225,20 +226,20 @@ module _ (w : World) (g : Sound w.host) (room : length w.bytes ≡ 40960) (l : �
   unfolding sent
   sent_stays k a p payload =
       either_stays _ [] _
-      (λ e. cond_cases (eqb (socket_at w.host k).error 0) _ _ (Stays w l) (λ x. queued_stays k a p payload (called w.host (length w.bytes) k _ refl e).0.ready) (λ x. socket_stays k _ _ []))
+      (λ e. cond_both (eqb (socket_at w.host k).error 0) _ _ (Stays w l) (λ x. queued_stays k a p payload (called w.host (length w.bytes) k _ refl e).0.ready) (λ x. socket_stays k _ _ []))
 
 -- a close that is refused, or of another socket
 close_stays : (w : World) (g : Sound w.host) (room : length w.bytes ≡ 40960) (l : ℕ) (hl : l < 16) (k : ℕ) → (eqb (closed w.host w.bytes k).answer.number 0 && eqb l k) ≡ false → Stays w l (closed w.host w.bytes k)
 unfolding closed unless
 close_stays w g room l hl k =
-    cond_cases (eqb (call_refusal w.host (length w.bytes) k) 0) _ _ (λ (o : Outcome). (eqb o.answer.number 0 && eqb l k) ≡ false → Stays w l o)
+    cond_both (eqb (call_refusal w.host (length w.bytes) k) 0) _ _ (λ (o : Outcome). (eqb o.answer.number 0 && eqb l k) ≡ false → Stays w l o)
     (λ e d. let c = (called w.host (length w.bytes) k _ refl (eqb-true _ _ e)).0 in cleared_stays w g room l hl k c.small (eqb-false l k d))
     (λ e d. record { same = refl })
 
 exit_stays : (w : World) (g : Sound w.host) (room : length w.bytes ≡ 40960) (l : ℕ) (hl : l < 16) → eqb (exited w.host w.bytes).answer.number 0 ≡ false → Stays w l (exited w.host w.bytes)
 unfolding exited unless
 exit_stays w g room l hl =
-    cond_cases (eqb (first (entry_rows w.host (length w.bytes))) 0) _ _ (λ (o : Outcome). eqb o.answer.number 0 ≡ false → Stays w l o)
+    cond_both (eqb (first (entry_rows w.host (length w.bytes))) 0) _ _ (λ (o : Outcome). eqb o.answer.number 0 ≡ false → Stays w l o)
     (λ e d. absurd (true≢false d)) (λ e d. record { same = refl })
 
 pub step_order : (w : World) (t : Step) → Sound w.host → length w.bytes ≡ 40960 → (l : ℕ) → l < 16 → restarts w t l ≡ false → holds w l ++ delivered_by w t l ≡ read_by w t l ++ held (after w t).host.queues (after w t).bytes l
@@ -276,7 +277,7 @@ record Emptied (l : ℕ) (o : Outcome) : Type 0 where
 module _ (w : World) (g : Sound w.host) (l : ℕ) (hl : l < 16) where
   either_emptied : (n : ℕ) (o : Outcome) → (n ≡ 0 → Emptied l o) → Emptied l (unless n w.host w.bytes [] o)
   unfolding unless
-  either_emptied n o f = cond_cases (eqb n 0) o (gives w.host (plain n) w.bytes []) (Emptied l) (λ e. f (eqb-true _ _ e)) (λ e. record { none = λ z. absurd (eqb-false _ _ e z) })
+  either_emptied n o f = cond_both (eqb n 0) o (gives w.host (plain n) w.bytes []) (Emptied l) (λ e. f (eqb-true _ _ e)) (λ e. record { none = λ z. absurd (eqb-false _ _ e z) })
 
   close_emptied : Emptied l (closed w.host w.bytes l)
   unfolding closed with_queues
@@ -307,7 +308,7 @@ socket_fresh : (w : World) (g : Sound w.host) (l : ℕ) → (eqb (socketed w.hos
     → held (socketed w.host w.bytes).host.queues (socketed w.host w.bytes).bytes l ≡ []
 unfolding socketed unless with_socket
 socket_fresh w g l =
-    cond_cases (eqb (socket_refusal w.host (length w.bytes)) 0) _ _ (λ (o : Outcome). (eqb o.answer.number 0 && eqb l o.answer.descriptor.0) ≡ true → held o.host.queues o.bytes l ≡ [])
+    cond_both (eqb (socket_refusal w.host (length w.bytes)) 0) _ _ (λ (o : Outcome). (eqb o.answer.number 0 && eqb l o.answer.descriptor.0) ≡ true → held o.host.queues o.bytes l ≡ [])
     (λ e d. fresh (eqb-true _ _ e) (eqb-true _ _ d)) (λ e d. absurd (false≢true (sym (ap (λ (b : Bool). b && eqb l 0) e) ∙ d)))
   where
     fresh : socket_refusal w.host (length w.bytes) ≡ 0 → l ≡ lowest_closed w.host.sockets → held w.host.queues w.bytes l ≡ []
@@ -348,12 +349,12 @@ module _ (w : World) (g : Sound w.host) where
 
   either_hands : (k n : ℕ) (b : List ℕ) (o : Outcome) → (n ≡ 0 → Hands k b o) → Hands k b (unless n w.host w.bytes b o)
   unfolding unless
-  either_hands k n b o f = cond_cases (eqb n 0) o (gives w.host (plain n) w.bytes b) (Hands k b) (λ e. f (eqb-true _ _ e)) (λ e z. absurd (eqb-false _ _ e z))
+  either_hands k n b o f = cond_both (eqb n 0) o (gives w.host (plain n) w.bytes b) (Hands k b) (λ e. f (eqb-true _ _ e)) (λ e z. absurd (eqb-false _ _ e z))
 
   oldest_hands : (k : ℕ) (b : List ℕ) (t : Thread) → Holding w.host (length w.bytes) k → Hands k b (oldest_taken w.host w.bytes k b t)
   unfolding oldest_taken
   oldest_hands k b t x =
-      cond_cases (ltb (length b) (first_head w.host.queues k).len) _ _ (Hands k b) (λ e z. absurd (omega (arith, z)))
+      cond_both (ltb (length b) (first_head w.host.queues k).len) _ _ (Hands k b) (λ e z. absurd (omega (arith, z)))
       (λ e z.
       let q = holds_some x in
       record {
@@ -366,10 +367,10 @@ module _ (w : World) (g : Sound w.host) where
   recvfrom_hands k nonblocking b =
       either_hands k _ b _
       (λ e. let c = (called w.host (length w.bytes) k _ refl e).0 in
-      cond_cases (not (eqb (socket_at w.host k).error 0)) _ _ (Hands k b) (λ x z. absurd (omega (arith, z)))
-      (λ x. cond_cases (not (eqb (count_at w.host k) 0)) _ _ (Hands k b)
+      cond_both (not (eqb (socket_at w.host k).error 0)) _ _ (Hands k b) (λ x z. absurd (omega (arith, z)))
+      (λ x. cond_both (not (eqb (count_at w.host k) 0)) _ _ (Hands k b)
       (λ y. oldest_hands k b w.host.thread (record { ready = c.ready; small = c.small; some = eqb-false _ _ (not-true _ y) }))
-      (λ y. cond_cases nonblocking _ _ (Hands k b) (λ i z. absurd (omega (arith, z))) (λ i z. absurd (omega (arith, z))))))
+      (λ y. cond_both nonblocking _ _ (Hands k b) (λ i z. absurd (omega (arith, z))) (λ i z. absurd (omega (arith, z))))))
 
   pub resume_hands : (b : List ℕ) → Hands (awaited_by w.host.thread) b (after w (resume b))
   unfolding after resumed resumed_on
@@ -377,7 +378,7 @@ module _ (w : World) (g : Sound w.host) where
       let k = awaited_by w.host.thread in
       either_hands k _ b _
       (λ e. let r = resuming w.host (length w.bytes) refl e in
-      cond_cases (not (eqb (socket_at w.host k).error 0)) _ _ (Hands k b) (λ x z. absurd (omega (arith, z)))
-      (λ x. cond_cases (not (eqb (count_at w.host k) 0)) _ _ (Hands k b)
+      cond_both (not (eqb (socket_at w.host k).error 0)) _ _ (Hands k b) (λ x z. absurd (omega (arith, z)))
+      (λ x. cond_both (not (eqb (count_at w.host k) 0)) _ _ (Hands k b)
       (λ y. oldest_hands k b Running (record { ready = r.0; small = r.1; some = eqb-false _ _ (not-true _ y) }))
       (λ y z. absurd (omega (arith, z)))))

@@ -9,7 +9,7 @@ use Prim.Native.Nat.{ℕ, ◌<◌}
 use lib.Dec.{eqb}
 use lib.ListN.{length}
 use borrow.Author.Tests.{eqb-false, not-true}
-use Rattle.laws.proofs.Tests.{cond_cases}
+use Rattle.std.proofs.lemmas.Bool.{cond_both}
 use Rattle.net.specs.Address.{no_flow}
 use Rattle.net.specs.declared.Flow.{Flow}
 use Rattle.state.specs.declared.Interface.{Interface}
@@ -79,7 +79,7 @@ run_out w g (t ∷ ts) =
 opening_empty : (is : List Interface) (n : ℕ) (s : List ℕ) → queued_in (opening is n s) ≡ []
 unfolding opened empty_host
 opening_empty is n s =
-    cond_cases (eqb (opening_refusal is n (length s)) 0) _ _ (λ (o : Outcome). waiting_out o.host.out o.bytes ≡ []) (λ e. empty_held _) (λ e. empty_held _)
+    cond_both (eqb (opening_refusal is n (length s)) 0) _ _ (λ (o : Outcome). waiting_out o.host.out o.bytes ≡ []) (λ e. empty_held _) (λ e. empty_held _)
 
 pub out_in_order : OutInOrder
 out_in_order is n s a ts = run_out (opening is n s) (opening_good is n s a) ts ∙ ap (λ (x : List Parcel). x ++ all_queued (opening is n s) ts) (opening_empty is n s)

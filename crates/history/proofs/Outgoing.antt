@@ -7,8 +7,8 @@ use Prim.Native.Nat.{ℕ}
 use lib.Dec.{eqb, ltb}
 use lib.ListN.{length}
 use borrow.Author.Tests.{eqb-true, eqb-false, not-true}
+use Rattle.std.proofs.lemmas.Bool.{cond_both}
 use Rattle.laws.specs.Places.{part}
-use Rattle.laws.proofs.Tests.{cond_cases}
 use Rattle.net.specs.declared.Port.{Port}
 use Rattle.state.specs.declared.Thread.{Thread}
 use Rattle.state.specs.declared.Thread.TheVariants.{Running}
@@ -51,7 +51,7 @@ module _ (w : World) (g : Sound w.host) (room : length w.bytes ≡ 40960) where
 
   either_rests : (n : ℕ) (b : List ℕ) (o : Outcome) → (n ≡ 0 → Rests w o) → Rests w (unless n h s b o)
   unfolding unless
-  either_rests n b o f = cond_cases (eqb n 0) o (gives h (plain n) s b) (Rests w) (λ e. f (eqb-true _ _ e)) (λ e. record { same = refl })
+  either_rests n b o f = cond_both (eqb n 0) o (gives h (plain n) s b) (Rests w) (λ e. f (eqb-true _ _ e)) (λ e. record { same = refl })
 
   -- the same bytes from 32,768 on
   other_bytes : (m : Host) (a : Answer) (t b : List ℕ) → m.out ≡ h.out → length t ≡ length s → part t 32768 8192 ≡ part s 32768 8192 → Rests w (gives m a t b)
@@ -60,7 +60,7 @@ module _ (w : World) (g : Sound w.host) (room : length w.bytes ≡ 40960) where
   taken_rests : (k : ℕ) (b : List ℕ) (t : Thread) → Holding h (length s) k → Rests w (oldest_taken h s k b t)
   unfolding oldest_taken with_thread with_queues
   taken_rests k b t x =
-      cond_cases (ltb (length b) (first_head h.queues k).len) _ _ (Rests w) (λ e. record { same = refl })
+      cond_both (ltb (length b) (first_head h.queues k).len) _ _ (Rests w) (λ e. record { same = refl })
       (λ e. other_bytes _ _ _ _ refl (take-length h.queues g.queues s k (some_of x)) (take_behind h.queues g.queues s k (some_of x)))
 
   recvfrom_rests : (k : ℕ) (nonblocking : Bool) (b : List ℕ) → Rests w (received h s k nonblocking b)
@@ -68,9 +68,9 @@ module _ (w : World) (g : Sound w.host) (room : length w.bytes ≡ 40960) where
   recvfrom_rests k nonblocking b =
       either_rests _ b _
       (λ e. let c = (called h (length s) k _ refl e).0 in
-      cond_cases (not (eqb (socket_at h k).error 0)) _ _ (Rests w) (λ x. record { same = refl })
-      (λ x. cond_cases (not (eqb (count_at h k) 0)) _ _ (Rests w) (λ y. taken_rests k b h.thread (record { ready = c.ready; small = c.small; some = eqb-false _ _ (not-true _ y) }))
-      (λ y. cond_cases nonblocking _ _ (Rests w) (λ z. record { same = refl }) (λ z. record { same = refl }))))
+      cond_both (not (eqb (socket_at h k).error 0)) _ _ (Rests w) (λ x. record { same = refl })
+      (λ x. cond_both (not (eqb (count_at h k) 0)) _ _ (Rests w) (λ y. taken_rests k b h.thread (record { ready = c.ready; small = c.small; some = eqb-false _ _ (not-true _ y) }))
+      (λ y. cond_both nonblocking _ _ (Rests w) (λ z. record { same = refl }) (λ z. record { same = refl }))))
 
   resume_rests : (b : List ℕ) → Rests w (resumed h s b)
   unfolding resumed resumed_on with_socket with_thread
@@ -78,8 +78,8 @@ module _ (w : World) (g : Sound w.host) (room : length w.bytes ≡ 40960) where
       either_rests _ b _
       (λ e. let r = resuming h (length s) refl e in
       let k = awaited_by h.thread in
-      cond_cases (not (eqb (socket_at h k).error 0)) _ _ (Rests w) (λ x. record { same = refl })
-      (λ x. cond_cases (not (eqb (count_at h k) 0)) _ _ (Rests w) (λ y. taken_rests k b Running (record { ready = r.0; small = r.1; some = eqb-false _ _ (not-true _ y) })) (λ y. record { same = refl })))
+      cond_both (not (eqb (socket_at h k).error 0)) _ _ (Rests w) (λ x. record { same = refl })
+      (λ x. cond_both (not (eqb (count_at h k) 0)) _ _ (Rests w) (λ y. taken_rests k b Running (record { ready = r.0; small = r.1; some = eqb-false _ _ (not-true _ y) })) (λ y. record { same = refl })))
 
   close_rests : (k : ℕ) → Rests w (closed h s k)
   unfolding closed with_queues with_socket
@@ -103,7 +103,7 @@ module _ (w : World) (g : Sound w.host) (room : length w.bytes ≡ 40960) where
 
     either_sends : (n : ℕ) (o : Outcome) → (n ≡ 0 → Sends o) → Sends (unless n h s [] o)
     unfolding unless
-    either_sends n o f = cond_cases (eqb n 0) o (gives h (plain n) s []) Sends (λ e. f (eqb-true _ _ e)) (λ e. unsent h n refl e)
+    either_sends n o f = cond_both (eqb n 0) o (gives h (plain n) s []) Sends (λ e. f (eqb-true _ _ e)) (λ e. unsent h n refl e)
 
     queued_sends : Ready h (length s) → Sends (queued_out h s k a p payload)
     unfolding queued_out with_out
@@ -117,7 +117,7 @@ module _ (w : World) (g : Sound w.host) (room : length w.bytes ≡ 40960) where
     unfolding sent with_socket
     sendto_sends =
         either_sends _ _
-        (λ e. cond_cases (eqb (socket_at h k).error 0) _ _ Sends (λ x. queued_sends (called h (length s) k _ refl e).0.ready) (λ x. unsent (without_error h k) 10 refl refl))
+        (λ e. cond_both (eqb (socket_at h k).error 0) _ _ Sends (λ x. queued_sends (called h (length s) k _ refl e).0.ready) (λ x. unsent (without_error h k) 10 refl refl))
 
 -- ---- the theorem
 

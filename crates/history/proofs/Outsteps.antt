@@ -9,9 +9,10 @@ use native.Mathlib.Omega.{arith}
 use lib.Dec.{eqb, leb}
 use lib.ListN.{length}
 use borrow.Author.Tests.{eqb-true, eqb-false, not-true, ne_eqb, le-leb}
+use Rattle.std.proofs.lemmas.Bool.{and_from, cond_both, or_left}
 use Rattle.laws.specs.Places.{part, splice}
 use Rattle.laws.proofs.Splice.{length_part, part_part}
-use Rattle.laws.proofs.Tests.{cond_cases, and_left, and_right, and_both, or_one}
+use Rattle.laws.proofs.Tests.{and_left, and_right}
 use Rattle.net.specs.Address.{loopback, martian}
 use Rattle.net.specs.declared.Flow.{Flow}
 use Rattle.state.specs.Interfaces.{ours}
@@ -58,7 +59,7 @@ same_then : {q r v : Queues} {s t u : List ℕ} {k : ℕ} → SameQueue q s r t 
 same_then x y = record { count = y.count ∙ x.count; heads = λ i m. y.heads i m ∙ x.heads i m; bytes = y.bytes ∙ x.bytes }
 
 took : (n : ℕ) → 20 ≤ n → n ≤ 29 → takes n ≡ true
-took n a b = and_both (leb 20 n) _ (le-leb 20 n a) (ap not (ne_eqb n 31 (λ e. absurd (omega (arith, e)))))
+took n a b = and_from (leb 20 n) _ (le-leb 20 n a) (ap not (ne_eqb n 31 (λ e. absurd (omega (arith, e)))))
 
 module _ (w : World) (g : Sound w.host) (b : List ℕ) (v : Leaving w.host w.bytes (length b)) where
   abbrev h : Host
@@ -138,7 +139,7 @@ module _ (w : World) (g : Sound w.host) (b : List ℕ) (v : Leaving w.host w.byt
       let x = oldest_item h in
       let small = oldest_small v in
       let size = length_part s 32768 x.len (omega (arith, v.ready.room)) in
-      let mine : ours h.interfaces x.flow.dst ≡ true = or_one (loopback x.flow.dst) _ (ap loopback (sym (to_dst e)) ∙ lb) in
+      let mine : ours h.interfaces x.flow.dst ≡ true = or_left (loopback x.flow.dst) _ (ap loopback (sym (to_dst e)) ∙ lb) in
       let l = looping h.sockets h.queues o s in
       let y = landing_facts h.sockets h.queues g.queues (without_first o) rest_sound.out rest rest_room (loop_head x) (part s 32768 x.len) g.formed.counts (sym size) (omega (arith, size)) rest_sound.formed.outcount (loopback x.flow.src) in
       let q : sought_by x ≡ x.flow = simp e in
@@ -162,9 +163,9 @@ module _ (w : World) (g : Sound w.host) (b : List ℕ) (v : Leaving w.host w.byt
   leaving_dealt : Out (leaving h s b)
   unfolding leaving handled_inside
   leaving_dealt =
-      cond_cases (loopback (destination_of (oldest_item h))) _ _ Out
-      (λ lb. cond_cases (eqb (oldest_item h).kind 0) _ _ Out (landed_inside lb) (heard_inside lb))
-      (λ lb. cond_cases (martian (destination_of (oldest_item h))) _ _ Out (λ m. gone_out (plain 32) b refl refl refl) (λ m. gone_out _ _ refl refl refl))
+      cond_both (loopback (destination_of (oldest_item h))) _ _ Out
+      (λ lb. cond_both (eqb (oldest_item h).kind 0) _ _ Out (landed_inside lb) (heard_inside lb))
+      (λ lb. cond_both (martian (destination_of (oldest_item h))) _ _ Out (λ m. gone_out (plain 32) b refl refl refl) (λ m. gone_out _ _ refl refl refl))
 
 pub outstep_dealt : (w : World) (g : Sound w.host) (b : List ℕ)
     → Dealt w (λ l. (loopback (destination_of (oldest_item w.host)) ≡ true) × Picks w.host.sockets (sought_by (oldest_item w.host)) l) (coming_back w) (first_out w).head.flow (λ n. cond (takes n) (first_out w ∷ []) [])
@@ -205,19 +206,19 @@ module _ (w : World) (b : List ℕ) where
   heard_emits : (h : Host) (f : Flow) (t : List ℕ) → Emits w b (outcome (heard_step h f) t b)
   unfolding heard_step
   heard_emits h f t =
-      cond_cases (eqb (hearing h.sockets f).number 27) _ _ (λ (r : Stepped). Emits w b (outcome r t b))
+      cond_both (eqb (hearing h.sockets f).number 27) _ _ (λ (r : Stepped). Emits w b (outcome r t b))
       (λ e. silent _ (λ z. absurd (omega (arith, z))) (λ z. absurd (omega (arith, z))) refl)
       (λ e. let n = hearing_facts h.sockets f in silent _ (λ z. absurd (omega (arith, z, n.1))) (λ z. absurd (omega (arith, z, n.0))) refl)
 
   leaving_emits : Leaving w.host w.bytes (length b) → Emits w b (leaving w.host w.bytes b)
   unfolding leaving handled_inside
   leaving_emits v =
-      cond_cases (loopback (destination_of (oldest_item w.host))) _ _ (Emits w b)
-      (λ e. cond_cases (eqb (oldest_item w.host).kind 0) _ _ (Emits w b)
+      cond_both (loopback (destination_of (oldest_item w.host))) _ _ (Emits w b)
+      (λ e. cond_both (eqb (oldest_item w.host).kind 0) _ _ (Emits w b)
       (λ k. landed_emits (bytes_without w.host w.bytes) (record { head = loop_head (oldest_item w.host); bytes = part w.bytes 32768 (oldest_item w.host).len })
       (popped_length w.bytes 32768 w.host.out.count v.some.some (omega (arith, v.some.few, v.some.store)) ∙ v.some.store))
       (λ k. heard_emits _ _ _))
-      (λ e. cond_cases (martian (destination_of (oldest_item w.host))) _ _ (Emits w b)
+      (λ e. cond_both (martian (destination_of (oldest_item w.host))) _ _ (Emits w b)
       (λ m. silent _ (λ z. absurd (omega (arith, z))) (λ z. absurd (omega (arith, z))) refl)
       (λ m. record {
         emitted = λ z. (refl, ap (splice b 0) (sym (oldest_out_bytes w.host.out w.bytes v.ready.room (oldest_small v))));
@@ -228,7 +229,7 @@ module _ (w : World) (b : List ℕ) where
   either_emits : (n : ℕ) (o : Outcome) → (not (eqb n 30) && not (eqb n 22)) ≡ true → (n ≡ 0 → Emits w b o) → Emits w b (unless n w.host w.bytes b o)
   unfolding unless
   either_emits n o q f =
-      cond_cases (eqb n 0) o (gives w.host (plain n) w.bytes b) (Emits w b) (λ e. f (eqb-true _ _ e))
+      cond_both (eqb n 0) o (gives w.host (plain n) w.bytes b) (Emits w b) (λ e. f (eqb-true _ _ e))
       (λ e. silent _ (eqb-false _ _ (not-true _ (and_left (not (eqb n 30)) _ q))) (eqb-false _ _ (not-true _ (and_right (not (eqb n 30)) _ q))) refl)
 
   pub outstep_emits : Emits w b (stepped w.host w.bytes b)

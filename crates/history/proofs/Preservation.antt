@@ -9,7 +9,8 @@ use native.Mathlib.Omega.{arith}
 use lib.Dec.{eqb}
 use lib.ListN.{length}
 use borrow.Author.Tests.{eqb-true, eqb-false, not-true}
-use Rattle.laws.proofs.Tests.{cond_cases, and_left, and_right}
+use Rattle.std.proofs.lemmas.Bool.{cond_both}
+use Rattle.laws.proofs.Tests.{and_left, and_right}
 use Rattle.state.specs.declared.Interface.{Interface}
 use Rattle.store.proofs.Slots.{cleared_length}
 use Rattle.host.specs.Form.{WellFormed}
@@ -39,7 +40,7 @@ Preservation = (is : List Interface) (n : ℕ) (s : List ℕ) → Accepted is n 
 opening_long : (is : List Interface) (n : ℕ) (s : List ℕ) → Accepted is n s → length (opened is n s).bytes ≡ 40960
 unfolding opened
 opening_long is n s =
-    cond_cases (eqb (opening_refusal is n (length s)) 0) _ _ (λ (o : Outcome). o.answer.number ≡ 0 → length o.bytes ≡ 40960)
+    cond_both (eqb (opening_refusal is n (length s)) 0) _ _ (λ (o : Outcome). o.answer.number ≡ 0 → length o.bytes ≡ 40960)
     (λ e z. let room = opening_room is n s refl (eqb-true _ _ e) in cleared_length s 0 40960 (omega arith) ∙ room) (λ e z. absurd (eqb-false _ _ e z))
 
 pub opening_good : (is : List Interface) (n : ℕ) (s : List ℕ) → Accepted is n s → Good (opening is n s)

@@ -10,9 +10,9 @@ use native.Mathlib.Nat.{pow-suc}
 use lib.Dec.{eqb}
 use lib.ListN.{replicate, get_or-replicate}
 use lib.Pow.{pow_mono}
+use Rattle.std.proofs.lemmas.Bool.{cond_both}
 use Rattle.state.specs.declared.Socket.{Socket}
 use Rattle.state.specs.Places.{socket_in}
-use Rattle.laws.proofs.Tests.{cond_cases}
 use Rattle.host.specs.Polling.{bit, ready_by, ready_below}
 
 -- what bit i adds
@@ -36,7 +36,7 @@ ready_done {i = i} g n u v = let q : n ≡ i = omega arith in rw q g.is
 
 -- they fit the mask's bits
 added_upto : (mask : ℕ) (f : ℕ → Bool) (i : ℕ) → added mask f i ≤ 2 ^ i
-added_upto mask f i = cond_cases (bit mask i && f i) (2 ^ i) 0 (λ (m : ℕ). m ≤ 2 ^ i) (λ e. omega arith) (λ e. omega arith)
+added_upto mask f i = cond_both (bit mask i && f i) (2 ^ i) 0 (λ (m : ℕ). m ≤ 2 ^ i) (λ e. omega arith) (λ e. omega arith)
 
 ready_small : (mask : ℕ) (f : ℕ → Bool) (n : ℕ) → ready_below mask f n < 2 ^ n
 unfolding ready_below

@@ -9,12 +9,16 @@ use native.Mathlib.Omega.{arith}
 use lib.Dec.{eqb}
 use lib.ListN.{length}
 use borrow.Author.Tests.{eqb-true, eqb-false, ltb-false, eq-eqb, ne_eqb, not-true, not-false}
+use Rattle.std.proofs.lemmas.Bool.{cond_both}
 use Rattle.laws.specs.Places.{splice}
+use Rattle.laws.proofs.Below.{lowest_upto}
 use Rattle.laws.proofs.Numbers.{below, positive}
-use Rattle.laws.proofs.Tests.{cond_cases, and_left, and_right}
+use Rattle.laws.proofs.Tests.{and_left, and_right}
 use Rattle.state.specs.declared.Interface.{Interface}
+use Rattle.state.specs.declared.Socket.{Socket}
 use Rattle.state.specs.declared.Thread.{Thread}
 use Rattle.state.specs.declared.Thread.TheVariants.{Running, Waiting, Ended}
+use Rattle.state.specs.Places.{socket_in}
 use Rattle.state.specs.Interfaces.{opening_ok, own}
 use Rattle.state.specs.Threads.{ended, waiting}
 use Rattle.state.specs.Plain.{Awaited}
@@ -22,6 +26,7 @@ use Rattle.state.proofs.Fits.{open_is}
 use Rattle.net.specs.declared.Flow.{Flow}
 use Rattle.net.specs.declared.Port.{Port}
 use Rattle.store.specs.Store.{zeros}
+use Rattle.binding.specs.Sockets.{closed_at, lowest_closed}
 use Rattle.queues.specs.Moves.{first_head}
 use Rattle.host.specs.declared.Host.{Host}
 use Rattle.answers.specs.declared.Answer.{Answer}
@@ -52,7 +57,7 @@ NoneHolds (r ∷ rs) = (r.0 ≡ false) × NoneHolds rs
 pub rows_passed : (rs : List (Bool × ℕ)) (m : ℕ) → numbered rs ≡ true → first_or rs m ≡ 0 → NoneHolds rs × (m ≡ 0)
 rows_passed [] m n = λ e. (tt, e)
 rows_passed (r ∷ rs) m n =
-    cond_cases r.0 r.1 (first_or rs m) (λ x. x ≡ 0 → NoneHolds (r ∷ rs) × (m ≡ 0))
+    cond_both r.0 r.1 (first_or rs m) (λ x. x ≡ 0 → NoneHolds (r ∷ rs) × (m ≡ 0))
     (λ c e. absurd (eqb-false r.1 0 (not-true _ (and_left (not (eqb r.1 0)) _ n)) e))
     (λ c e. let p = rows_passed rs m (and_right (not (eqb r.1 0)) _ n) e in ((c, p.0), p.1))
 
@@ -92,6 +97,12 @@ module _ (is : List Interface) (n : ℕ) (s : List ℕ) {m : ℕ} (e : m ≡ ope
   pub opening_done : {h : Host} {a : Answer} {t : List ℕ} → m ≡ 0 → h ≡ empty_host is n Running → a ≡ plain 0 → t ≡ splice s 0 (zeros 40960) → gives h a t [] ≡ opened is n s
   unfolding opened
   opening_done z eh ea et = let q : opening_refusal is n (length s) ≡ 0 = sym e ∙ z in simp (eq-eqb _ _ q) (rw (eh, ea, et))
+
+-- ---- socket: the descriptors end at 16
+
+pub lowest_closed_upto : (ks : List Socket) → lowest_closed ks ≤ 16
+unfolding lowest_closed
+lowest_closed_upto ks = lowest_upto (λ k. closed_at (socket_in ks k)) 16 0
 
 -- ---- resume and interrupt: a thread that waits, on a descriptor that is one
 

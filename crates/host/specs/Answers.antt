@@ -5,6 +5,10 @@ use Rattle.answers.specs.declared.Answer.{Answer}
 use Rattle.answers.specs.Answers.{plain}
 use Rattle.host.specs.declared.Stepped.{Stepped}
 
+-- the same host, with that answer
+abbrev pub answered : Host → Answer → Stepped
+answered h a = record { host = h; answer = a }
+
 -- the same host, with that number
 abbrev pub unchanged : Host → ℕ → Stepped
 unchanged h n = record { host = h; answer = plain n }

@@ -4,57 +4,48 @@ ghost use Rattle.host.specs.Answers.{outcome};
 ghost use Rattle.host.specs.Closing.{closed, exit_host, exited};
 
 use crate::{Host, Stepped};
+use answers::Report;
 use net::Descriptor;
 use queues::Queues;
 use state::Thread;
 
 impl Host {
     // Zeroes the socket and its slots.
+    #[tactic(auto, using(crate::proofs::Refusals::checked), unfolding(crate::specs::Closing::closed))]
     pub fn close(self, store: &mut [u8], d: Descriptor) -> Stepped
         ensures { outcome result store.new [] ≡ closed self store.old d.0 }
     {
-        let k = d.0 as usize;
-        let n = self.call_rows(store.len(), k, 0);
-        if n != 0 {
-            return self.refused(n);
+        let k = usize::from(d);
+        if let Err(refusal) = self.call(store.len(), k) {
+            return self.refused(refusal);
         }
-        let q = self.queues;
-        let empty = q.clear(store, k);
-        let h = self.with_socket(k, binding::no_socket());
-        Stepped {
-            host: h.with_queues(empty),
-            answer: answers::numbered(0),
-        }
+        let empty = self.queues.clear(store, k);
+        self.with_socket(k, binding::no_socket())
+            .with_queues(empty)
+            .reported(Report::Done)
     }
 
     // No socket, nothing held, and the thread ended; the out-queue stays.
-    fn after_exit(self, q: Queues) -> Host
-        ensures { result ≡ exit_host self q }
+    #[tactic(auto, unfolding(crate::specs::Closing::exit_host, laws::specs::Places::copies))]
+    fn after_exit(self, queues: Queues) -> Host
+        ensures { result ≡ exit_host self queues }
     {
-        let interfaces = self.interfaces;
-        let out = self.out;
-        let sockets = [binding::no_socket(); 16];
         Host {
-            interfaces,
-            sockets,
-            queues: q,
-            out,
+            sockets: [binding::no_socket(); 16],
+            queues,
             thread: Thread::Ended,
-            icount: self.icount,
+            ..self
         }
     }
 
+    #[tactic(auto, using(crate::proofs::Refusals::checked), unfolding(crate::specs::Closing::exited))]
     pub fn exit(self, store: &mut [u8]) -> Stepped
         ensures { outcome result store.new [] ≡ exited self store.old }
     {
-        let n = self.entry_rows(store.len(), 0);
-        if n != 0 {
-            return self.refused(n);
+        if let Err(refusal) = self.entry(store.len()) {
+            return self.refused(refusal);
         }
         let empty = Queues::clear_all(store);
-        Stepped {
-            host: self.after_exit(empty),
-            answer: answers::numbered(0),
-        }
+        self.after_exit(empty).reported(Report::Done)
     }
 }

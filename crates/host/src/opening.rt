@@ -4,28 +4,27 @@ ghost use Rattle.host.specs.Answers.{outcome};
 ghost use Rattle.host.specs.Opening.{empty_host, ended_host, opened};
 
 use crate::{Host, Stepped};
-use answers::tables;
+use answers::{Report, tables};
 use outqueue::OutQueue;
 use queues::Queues;
 use state::{Interface, Thread};
 
 // A host with these interfaces, no socket open and nothing queued.
+#[tactic(auto, unfolding(crate::specs::Opening::empty_host, laws::specs::Places::copies))]
 fn empty_host(interfaces: [Interface; 4], n: u8, t: Thread) -> Host
     ensures { result ≡ empty_host interfaces n t }
 {
-    let queues = Queues::empty();
-    let out = OutQueue::empty();
-    let sockets = [binding::no_socket(); 16];
     Host {
         interfaces,
-        sockets,
-        queues,
-        out,
+        sockets: [binding::no_socket(); 16],
+        queues: Queues::empty(),
+        out: OutQueue::empty(),
         thread: t,
         icount: n,
     }
 }
 
+#[tactic(auto, unfolding(laws::specs::Places::copies))]
 fn ended_host() -> Host
     ensures { result ≡ ended_host }
 {
@@ -33,21 +32,15 @@ fn ended_host() -> Host
 }
 
 impl Host {
+    #[tactic(auto, using(crate::proofs::Refusals::checked), unfolding(crate::specs::Opening::opened))]
     pub fn opening(interfaces: [Interface; 4], count: u8, store: &mut [u8]) -> Stepped
         ensures { outcome result store.new [] ≡ opened interfaces count store.old }
     {
-        let accepted = state::interfaces::are_accepted(interfaces, count as usize);
-        let n = tables::opening_rows(store.len(), accepted);
-        if n != 0 {
-            return Stepped {
-                host: ended_host(),
-                answer: answers::numbered(n),
-            };
+        let accepted = state::interfaces::are_accepted(&interfaces, count as usize);
+        if let Err(refusal) = tables::opening_rows(store.len(), accepted) {
+            return ended_host().refused(refusal);
         }
         store::clear(store, 0, 40960);
-        Stepped {
-            host: empty_host(interfaces, count, Thread::Running),
-            answer: answers::numbered(0),
-        }
+        empty_host(interfaces, count, Thread::Running).reported(Report::Done)
     }
 }

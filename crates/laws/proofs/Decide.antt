@@ -6,9 +6,10 @@ use mathlib.Core.Bool.{Bool, true, false, ◌&&◌, ◌||◌, not, cond}
 use Prim.Native.Nat.{ℕ, ◌<◌, ◌≤◌}
 use lib.Dec.{eqb, leb, ltb}
 use borrow.Author.Tests.{eqb-true, eqb-false, leb-true, ltb-true, ltb-false, eq-eqb, ne_eqb, le-leb, lt-ltb, le-ltb, not-true, not-false}
+use Rattle.std.proofs.lemmas.Bool.{and_from, cases_Bool, or_cases, or_left, or_right}
 use Rattle.laws.specs.Below.{all_below}
 use Rattle.laws.specs.Decides.{Decides, Fails}
-use Rattle.laws.proofs.Tests.{two, not_both, and_left, and_right, and_both, or_cases, or_one, or_two}
+use Rattle.laws.proofs.Tests.{not_both, and_left, and_right}
 use Rattle.laws.proofs.Below.{all_at, all_from}
 
 -- ---- tests of numbers
@@ -51,24 +52,24 @@ f_not {a} c = record { says = λ e. c.says (not-false a e); back = λ n. ap not 
 
 -- a test fails where its statement does not hold
 pub f_absurd : {a : Bool} {P : Type 0} → Decides a P → Fails a (P → ⊥)
-f_absurd {a} {P} d = record { says = λ e p. not_both (d.back p) e; back = λ n. ⊎_elim (λ e. absurd (n (d.says e))) (λ e. e) (two a) }
+f_absurd {a} {P} d = record { says = λ e p. not_both (d.back p) e; back = λ n. ⊎_elim (λ e. absurd (n (d.says e))) (λ e. e) (cases_Bool a) }
 
 pub d_and : {a b : Bool} {P Q : Type 0} → Decides a P → Decides b Q → Decides (a && b) (P × Q)
-d_and {a} {b} c d = record { says = λ e. (c.says (and_left a b e), d.says (and_right a b e)); back = λ p. and_both a b (c.back p.0) (d.back p.1) }
+d_and {a} {b} c d = record { says = λ e. (c.says (and_left a b e), d.says (and_right a b e)); back = λ p. and_from a b (c.back p.0) (d.back p.1) }
 
 -- where a holds, b decides Q
 pub d_then : {a b : Bool} {P Q : Type 0} → Decides a P → (P → Decides b Q) → Decides (a && b) (P × Q)
 d_then {a} {b} c d =
     record {
       says = λ e. let p = c.says (and_left a b e) in (p, (d p).says (and_right a b e));
-      back = λ p. and_both a b (c.back p.0) ((d p.0).back p.1);
+      back = λ p. and_from a b (c.back p.0) ((d p.0).back p.1);
     }
 
 pub d_or : {a b : Bool} {P Q : Type 0} → Decides a P → Decides b Q → Decides (a || b) (P ⊎ Q)
 d_or {a} {b} c d =
     record {
       says = λ e. ⊎_elim (λ x. inl (c.says x)) (λ x. inr (d.says x)) (or_cases a b e);
-      back = λ p. ⊎_elim (λ x. or_one a b (c.back x)) (λ x. or_two a b (d.back x)) p;
+      back = λ p. ⊎_elim (λ x. or_left a b (c.back x)) (λ x. or_right a b (d.back x)) p;
     }
 
 -- where a fails, b holds
@@ -76,7 +77,7 @@ pub d_unless : {a b : Bool} {N Q : Type 0} → Fails a N → Decides b Q → Dec
 d_unless {a} {b} c d =
     record {
       says = λ e n. ⊎_elim (λ x. not_both x (c.back n)) (λ x. d.says x) (or_cases a b e);
-      back = λ f. ⊎_elim (λ x. or_one a b x) (λ x. or_two a b (d.back (f (c.says x)))) (two a);
+      back = λ f. ⊎_elim (λ x. or_left a b x) (λ x. or_right a b (d.back (f (c.says x)))) (cases_Bool a);
     }
 
 pub d_cond : {c a b : Bool} {C N P Q : Type 0} → Decides c C → Fails c N → Decides a P → Decides b Q → Decides (cond c a b) ((C → P) × (N → Q))

@@ -5,11 +5,14 @@ use mathlib.Core.List.{List, [], ◌∷◌, ◌++◌, append_assoc, append-nil}
 use mathlib.Core.Logic.{◌⊎◌, inl, inr, ⊎_elim}
 use Prim.Native.Nat.{ℕ, suc, ◌+◌, ◌-◌, ◌≤◌, ◌<◌}
 use native.Mathlib.Nat.{add_assoc}
+use native.Mathlib.Numerals.{add-one}
 use native.Mathlib.Omega.{arith}
-use lib.ListN.{length, get_or, take, drop, set, length-append, length-take, length-drop, length-replicate, get_or-replicate, get_or-append, drop_of_length-le}
-use lib.Seq.{get_or-take, get_or-drop, get_or-append-add, take_at, drop_at, drop-drop, take_all, drop-cons, sets-eq, ext_get_or}
+use lib.ListN.{length, get_or, take, drop, replicate, set, length-append, length-take, length-drop, length-replicate, get_or-replicate, get_or-append, drop_of_length-le}
+use lib.Seq.{get_or-take, get_or-drop, get_or-append-add, take_at, drop_at, drop-drop, take_all, drop-cons, set_at, sets-eq, ext_get_or}
+use borrow.Rule.Slice.PartMut.{put_mid, mid_of, post_of}
+use Rattle.std.proofs.lemmas.Bool.{cases_lt}
+use Rattle.std.specs.List.{copy_within}
 use Rattle.laws.specs.Places.{part, splice, copies, popped}
-use Rattle.laws.proofs.Numbers.{side}
 
 -- ---- lengths
 
@@ -80,6 +83,11 @@ parts_same z s t a b n hs ht h =
     ext_get_or z _ _ (length_part s a n hs ∙ sym (length_part t b n ht))
     (λ i l. let l' : i < n = omega (arith, length_part s a n hs) in get_or_part z s a n i l' ∙ h i l' ∙ sym (get_or_part z t b n i l'))
 
+-- what `&s[at..at + n]` holds
+pub part_is : {A : Type 0} (s : List A) (at : ℕ) {xs : List A} {k n : ℕ} → xs ≡ take k (drop at s) → k ≡ n → xs ≡ part s at n
+unfolding part
+part_is s at e m = rw (← m) e
+
 pub part_all : {A : Type 0} (xs : List A) (n : ℕ) → length xs ≡ n → part xs 0 n ≡ xs
 unfolding part
 part_all xs n e = take_all n xs (omega arith)
@@ -133,8 +141,8 @@ splice_agree z s t at xs hs ht i e =
     (λ v. ⊎_elim
     (λ w. let k : i ≡ at + (i - at) = omega arith in rw k (get_or_in z s at xs hs (i - at) (omega arith) ∙ sym (get_or_in z t at xs ht (i - at) (omega arith))))
     (λ w. get_or_behind z s at xs hs i w ∙ e ∙ sym (get_or_behind z t at xs ht i w))
-    (side i (at + length xs)))
-    (side i at)
+    (cases_lt i (at + length xs)))
+    (cases_lt i at)
 
 -- apart from each other: in either order
 pub splice_apart : {A : Type 0} (z : A) (s : List A) (a : ℕ) (xs : List A) (b : ℕ) (ys : List A) → a + length xs ≤ b → b + length ys ≤ length s
@@ -148,7 +156,7 @@ splice_apart z s a xs b ys apart fits =
     ∙ sym (splice_agree z (splice s b ys) s a xs (omega arith) (omega arith) i (get_or_before z s b ys fits i (omega arith))))
     (λ w. splice_agree z (splice s a xs) s b ys (omega arith) fits i (get_or_behind z s a xs (omega arith) i w)
     ∙ sym (get_or_behind z (splice s b ys) a xs (omega arith) i w))
-    (side i (a + length xs)))
+    (cases_lt i (a + length xs)))
 
 -- the whole
 pub splice_all : {A : Type 0} (s xs : List A) → length xs ≡ length s → splice s 0 xs ≡ xs
@@ -241,3 +249,59 @@ part_three z s at p q ep eq h =
     let p' : p ≡ suc at = omega arith in
     let q' : q ≡ suc (suc at) = omega arith in
     rw (p', q', drop-cons s at z (omega arith), drop-cons s (suc at) z (omega arith), drop-cons s (suc (suc at)) z (omega arith))
+
+-- ---- what `s.copy_within(from..to, dest)` leaves
+
+pub moved_is : {A : Type 0} (s : List A) (from to dest : ℕ) {n : ℕ} → to ≤ length s → to - from ≡ n → copy_within s from to dest ≡ splice s dest (part s from n)
+unfolding part splice
+moved_is s from to dest {n = n} h e =
+    let size : length (take n (drop from s)) ≡ n = simp (length-take, length-drop) (omega arith) in
+    rw (e, size)
+
+-- ---- what a write through a part leaves: `&mut s[at..at + k]`, which then is xs
+
+pub put_mid_is : {A : Type 0} (s xs : List A) (at k : ℕ) → length xs ≡ k → put_mid at k s xs ≡ splice s at xs
+unfolding splice
+put_mid_is s xs at k e = rw (e, drop-drop) (sym (append_assoc (take at s) xs (drop (at + k) s)))
+
+-- where it is what was copied in
+pub copied_is : {A : Type 0} (s : List A) (at : ℕ) {xs ys : List A} {k : ℕ} → xs ≡ ys → length ys ≡ k → put_mid at k s xs ≡ splice s at ys
+copied_is s at {ys = ys} {k = k} e n = rw e (put_mid_is s ys at k n)
+
+-- the same of `&mut s[..k]`
+pub front_is : {A : Type 0} (s : List A) {xs ys : List A} {k : ℕ} → xs ≡ ys → length ys ≡ k → xs ++ drop k s ≡ splice s 0 ys
+unfolding splice
+front_is s {ys = ys} e n =
+    let m : 0 + length ys ≡ length ys = omega arith in
+    rw (e, m, n)
+
+-- where it was filled with z
+pub filled_is : {A : Type 0} (z : A) (s : List A) (at : ℕ) {xs : List A} {k n : ℕ} → xs ≡ replicate (length (take k (drop at s))) z → k ≡ n → at + n ≤ length s
+    → put_mid at k s xs ≡ splice s at (copies z n)
+unfolding copies
+filled_is z s at {k = k} {n = n} e m fits =
+    let size : length (take k (drop at s)) ≡ n = simp (length-take, length-drop) (omega arith) in
+    copied_is s at (rw size at e) (length-replicate n z ∙ sym m)
+
+-- `s[at..at + k].rotate_left(1)`, and then z in the last of those places
+pub rotated_is : {A : Type 0} (z : A) (s r : List A) (at k rest last : ℕ) → k ≡ suc rest → last ≡ at + rest → at + k ≤ length s
+    → r ≡ drop 1 (mid_of at k s) ++ take 1 (mid_of at k s) → set (put_mid at k s r) last z ≡ popped z s at 1 rest
+unfolding part splice copies
+rotated_is {A} z s r at k rest last ek el h e =
+    let x = get_or s at z in
+    let p = take rest (drop (suc at) s) in
+    let d : drop at s ≡ x ∷ drop (suc at) s = drop-cons s at z (omega arith) in
+    let l : length (take at s ++ p) ≡ at + rest = simp (length-append, length-take, length-drop) (omega arith) in
+    let n : suc at + rest ≡ at + length (p ++ (z ∷ [])) = simp (length-append, length-take, length-drop) (omega arith) in
+    let b = drop (at + length (p ++ (z ∷ []))) s in
+    rw (e, ek, el, d, add-one at, drop-drop rest, n)
+    (ap (λ (t : List A). set (take at s ++ t) (at + rest) z) (append_assoc p (x ∷ []) b)
+    ∙ ap (λ (t : List A). set t (at + rest) z) (sym (append_assoc (take at s) p (x ∷ b)))
+    ∙ set_at (take at s ++ p) x b z (at + rest) l
+    ∙ sym (append_assoc (take at s ++ p) (z ∷ []) b)
+    ∙ ap (λ (t : List A). t ++ b) (append_assoc (take at s) p (z ∷ [])))
+
+-- the same where the part is the front
+pub rotated_front : {A : Type 0} (z : A) (s r : List A) (k rest : ℕ) → k ≡ suc rest → k ≤ length s
+    → r ≡ drop 1 (mid_of 0 k s) ++ take 1 (mid_of 0 k s) → set (r ++ post_of 0 k s) rest z ≡ popped z s 0 1 rest
+rotated_front z s r k rest ek h e = rotated_is z s r 0 k rest rest ek (omega arith) (omega arith) e

@@ -4,11 +4,12 @@ use mathlib.Core.Path.{◌≡◌, refl, sym, ap, ◌∙◌}
 use mathlib.Core.List.{List, [], ◌∷◌, ◌++◌}
 use mathlib.Core.Logic.{◌≢◌, ◌⊎◌, inl, inr}
 use mathlib.Core.Bool.{Bool, true, false, not, cond}
-use Prim.Native.Nat.{ℕ, ◌<◌, ◌≤◌, ◌-◌}
+use Prim.Native.Nat.{ℕ, ◌<◌, ◌≤◌, ◌-◌, min}
 use native.Mathlib.Omega.{arith}
 use lib.Dec.{eqb}
 use lib.ListN.{length}
 use borrow.Author.Tests.{lt-leb, eq-eqb, ne_eqb}
+use Rattle.std.proofs.lemmas.Bool.{cases_lt}
 use Rattle.laws.specs.Places.{copies}
 use Rattle.state.specs.declared.Interface.{Interface}
 use Rattle.state.specs.Interfaces.{opening_ok}
@@ -41,6 +42,10 @@ over is n s l = rw (over_four is n l) (refused (eqb (length s) 40960) _ s)
 pub count_tells : (is : List Interface) (n k : ℕ) (s : List ℕ) → ((4 < n) × (4 < k)) ⊎ (k ≡ n) → opened is k s ≡ opened is n s
 count_tells is n k s (inl p) = over is k s p.1 ∙ sym (over is n s p.0)
 count_tells is n k s (inr e) = ap (λ m. opened is m s) e
+
+-- and so does one that stops at 5
+pub stopped_tells : (is : List Interface) (n : ℕ) (s : List ℕ) → opened is (min n 5) s ≡ opened is n s
+stopped_tells is n s = count_tells is n (min n 5) s (elim (cases_lt 4 n) [ inl l ↦ inl (l, omega arith) | inr l ↦ inr (omega arith) ])
 
 -- a fifth record is never dropped, whatever the records are
 pub too_many : (xs : List Interface) (s : List ℕ) → 4 < length xs → length s ≡ 40960 → opened_list xs s ≡ gives ended_host (plain 17) s []

@@ -8,8 +8,11 @@ use Prim.Native.Nat.{ℕ, zero, suc, ◌+◌, ◌<◌, ◌≤◌}
 use native.Mathlib.Omega.{arith}
 use lib.Dec.{eqb}
 use borrow.Author.Tests.{eq-eqb, ne_eqb}
+use Rattle.std.proofs.lemmas.Bool.{cases_eq, cases_lt}
+use Rattle.std.specs.Prelude.{Option, None, Some, IsSome}
+use Rattle.std.specs.Option.{MatchOption}
 use Rattle.laws.specs.Decides.{Decides, Fails}
-use Rattle.laws.proofs.Numbers.{side, same_or_not}
+use Rattle.laws.proofs.Tests.{not_both}
 use Rattle.laws.proofs.Below.{lowest_from, lowest_least, lowest_passes, lowest_before}
 use Rattle.laws.proofs.Decide.{d_eq, f_eq, d_yes, f_not, d_not, f_absurd, d_and, d_unless, d_all, d_to}
 use Rattle.state.specs.declared.Socket.{Socket}
@@ -51,7 +54,7 @@ found : (f : ℕ → ℕ) (v n : ℕ) → ((i : ℕ) × (i < n) × (f i ≡ v)) 
 found f v zero = inr (λ i l. absurd (omega arith))
 found f v (suc n) =
     ⊎_elim (λ x. inl (x.0, omega (arith, x.1), x.2))
-    (λ x. ⊎_elim (λ e. inl (n, omega arith, e)) (λ d. inr (λ i l. ⊎_elim (λ w. x i w) (λ w. let q : i ≡ n = omega arith in rw q d) (side i n))) (same_or_not (f n) v))
+    (λ x. ⊎_elim (λ e. inl (n, omega arith, e)) (λ d. inr (λ i l. ⊎_elim (λ w. x i w) (λ w. let q : i ≡ n = omega arith in rw q d) (cases_lt i n))) (cases_eq (f n) v))
     (found f v n)
 
 -- the last in the place of the i-th
@@ -66,9 +69,9 @@ spare_but f n start k l low r j m q =
     (λ (x : j ≢ k). ⊎_elim
     (λ (w : j < n). r.other j w (ap (λ (c : Bool). cond c (f n) (f j)) (ne_eqb j k x) ∙ q))
     (λ (w : n ≤ j). let y : j ≡ n = omega arith in
-    r.other k (⊎_elim (λ v. v) (λ v. absurd (x (omega arith))) (side k n)) (ap (λ (c : Bool). cond c (f n) (f k)) (eq-eqb k k refl) ∙ ap f (sym y) ∙ q))
-    (side j n))
-    (same_or_not j k)
+    r.other k (⊎_elim (λ v. v) (λ v. absurd (x (omega arith))) (cases_lt k n)) (ap (λ (c : Bool). cond c (f n) (f k)) (eq-eqb k k refl) ∙ ap f (sym y) ∙ q))
+    (cases_lt j n))
+    (cases_eq j k)
 
 spare : (f : ℕ → ℕ) (n start : ℕ) → Spare f n start
 spare f zero start = record { at = start; from = omega arith; upto = omega arith; other = λ i l. absurd (omega arith) }
@@ -88,6 +91,11 @@ module _ (ks : List Socket) where
   -- a free port comes by the 17th at the latest
   unused : Spare (λ j. (socket_in ks j).lport.0) 16 1024
   unused = spare (λ j. (socket_in ks j).lport.0) 16 1024
+
+  -- and so `find` from 1024 up to 5000 gives one
+  pub some_free : (r : Option ℕ) (Q : ℕ → Type 0) → MatchOption r ((p : ℕ) → 1024 ≤ p → p < 5000 → port_free ks p ≡ false) Q → IsSome r
+  some_free None Q none = not_both ((free_is ks unused.at).back unused.other) (none unused.at unused.from (omega (arith, unused.upto)))
+  some_free (Some p) Q x = refl
 
   early : auto_port ks ≤ 1040
   unfolding auto_port

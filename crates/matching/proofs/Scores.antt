@@ -5,9 +5,9 @@ use mathlib.Core.List.{List}
 use mathlib.Core.Logic.{◌≢◌, inl, inr, ⊎_elim}
 use mathlib.Core.Bool.{Bool, true, false}
 use Prim.Native.Nat.{ℕ, ◌+◌, ◌<◌}
+use Rattle.std.proofs.lemmas.Bool.{cases_Bool, cases_eq}
 use Rattle.laws.specs.Decides.{Decides}
-use Rattle.laws.proofs.Numbers.{same_or_not}
-use Rattle.laws.proofs.Tests.{two, not_both}
+use Rattle.laws.proofs.Tests.{not_both}
 use Rattle.laws.proofs.Decide.{d_eq, f_eq, d_yes, d_not, d_and, d_unless, d_to}
 use Rattle.net.specs.declared.Flow.{Flow}
 use Rattle.state.specs.declared.Socket.{Socket}
@@ -47,12 +47,12 @@ score_parts s f m = simp ((matched_is s f).back m)
 -- one does not: 0
 pub score_none : (s : Socket) (f : Flow) → (Matches s f → ⊥) → score_of s f ≡ 0
 unfolding score_of
-score_none s f n = let e : matched s f ≡ false = ⊎_elim (λ e. absurd (n ((matched_is s f).says e))) (λ e. e) (two (matched s f)) in simp e
+score_none s f n = let e : matched s f ≡ false = ⊎_elim (λ e. absurd (n ((matched_is s f).says e))) (λ e. e) (cases_Bool (matched s f)) in simp e
 
 -- above 0: all agree
 pub score_matches : (s : Socket) (f : Flow) → score_of s f ≢ 0 → Matches s f
 unfolding score_of
-score_matches s f d = ⊎_elim (λ e. (matched_is s f).says e) (λ e. absurd (d (score_none s f (λ m. not_both ((matched_is s f).back m) e)))) (two (matched s f))
+score_matches s f d = ⊎_elim (λ e. (matched_is s f).says e) (λ e. absurd (d (score_none s f (λ m. not_both ((matched_is s f).back m) e)))) (cases_Bool (matched s f))
 
 pub unbound_scores : (s : Socket) (f : Flow) → s.lport.0 ≡ 0 → score_of s f ≡ 0
 unbound_scores s f e = score_none s f (λ m. m.port e)
@@ -65,8 +65,8 @@ closed_scores s f e = score_none s f (λ m. not_both m.live e)
 agree_overlap : (a b d : ℕ) → (a ≢ 0 → a ≡ d) → (b ≢ 0 → b ≡ d) → Overlap a b
 agree_overlap a b d ea eb =
     ⊎_elim (λ (e : a ≡ 0). inr (inl e))
-    (λ (x : a ≢ 0). ⊎_elim (λ (e : b ≡ 0). inr (inr e)) (λ (y : b ≢ 0). inl (ea x ∙ sym (eb y))) (same_or_not b 0))
-    (same_or_not a 0)
+    (λ (x : a ≢ 0). ⊎_elim (λ (e : b ≡ 0). inr (inr e)) (λ (y : b ≢ 0). inl (ea x ∙ sym (eb y))) (cases_eq b 0))
+    (cases_eq a 0)
 
 matching_reuse : {s t : Socket} → Apart s t → (f : Flow) → Matches s f → Matches t f → (s.reuse ≡ true) × (t.reuse ≡ true)
 matching_reuse {s} {t} a f m n = a.reused m.live n.live m.port (m.here ∙ sym n.here) (agree_overlap s.laddr t.laddr f.dst m.local n.local)

@@ -1,5 +1,5 @@
 -- Who gets a datagram: document 01, "Who gets a datagram" (000, 2.3.20: match, score and lookup)
-use Rattle.std.specs.Prelude.{ℕ, zero, suc, ◌+◌, List, Bool, ◌&&◌, ◌||◌, not, cond, ltb, eqb}
+use Rattle.std.specs.Prelude.{ℕ, zero, suc, ◌+◌, List, Option, None, Some, Bool, ◌&&◌, ◌||◌, not, cond, ltb, eqb}
 use Rattle.net.specs.declared.Flow.{Flow}
 use Rattle.state.specs.declared.Socket.{Socket}
 use Rattle.state.specs.Places.{socket_in}
@@ -42,3 +42,7 @@ best_below ks f (suc n) = better (best_below ks f n) n (score_of (socket_in ks n
 -- the greatest nonzero score wins, the lowest descriptor among equals (000 allows any best one)
 abbrev pub best_of : List Socket → Flow → Best
 best_of ks f = best_below ks f 16
+
+-- score 0: nobody
+abbrev pub found : Best → Option Best
+found b = cond (eqb b.score 0) None (Some b)

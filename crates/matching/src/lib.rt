@@ -5,7 +5,8 @@ pub mod ports;
 pub mod routes;
 pub mod scoring;
 
-// The best match and its score. Score 0: nobody.
+// The best match and its score.
+// stays: a count of 1 to 4 that no caller reads, since the definition `best_of` gives a Best with it.
 #[derive(Clone, Copy)]
 pub struct Best {
     pub at: usize,

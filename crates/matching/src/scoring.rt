@@ -1,16 +1,17 @@
 // Who gets a datagram (000, 2.3.20: match, score and lookup).
 ghost use Rattle.std.specs.Prelude.{◌≡◌, ◌≤◌};
-ghost use Rattle.matching.specs.Scores.{agrees, matched, one, score_of, better, best_of};
+ghost use Rattle.matching.specs.Scores.{agrees, matched, one, score_of, best_of, found};
 
 use crate::Best;
-use net::Flow;
+use net::{Flow, Port};
 use state::Socket;
 
+// stays: a port is asked as a number here, since the definitions `agrees` and `one` are of numbers.
 // A part that the socket has must agree.
 fn is_agreed(has: u32, given: u32) -> bool
     ensures { result ≡ agrees has given }
 {
-    (has == 0) | (has == given)
+    has == 0 || has == given
 }
 
 // Every part agrees, and there is a local port.
@@ -18,21 +19,22 @@ fn is_match(s: Socket, f: Flow) -> bool
     ensures { result ≡ matched s f }
 {
     s.live
-        & (s.lport.0 != 0)
-        & (s.lport.0 == f.dport.0)
-        & is_agreed(s.laddr, f.dst)
-        & is_agreed(s.raddr, f.src)
-        & is_agreed(s.rport.0 as u32, f.sport.0 as u32)
+        && s.lport != Port(0)
+        && s.lport == f.dport
+        && is_agreed(s.laddr, f.dst)
+        && is_agreed(s.raddr, f.src)
+        && is_agreed(s.rport.0 as u32, f.sport.0 as u32)
 }
 
 // A part that the socket has counts 1.
 fn count_one(has: u32) -> u8
     ensures { (result ≡ one has) × (result ≤ 1) }
 {
-    if has == 0 { 0 } else { 1 }
+    u8::from(has != 0)
 }
 
 // How well a socket matches a flow: 0 to 4.
+#[tactic(auto, unfolding(crate::specs::Scores::score_of))]
 pub fn score(s: Socket, f: Flow) -> u8
     ensures { result ≡ score_of s f }
 {
@@ -43,25 +45,16 @@ pub fn score(s: Socket, f: Flow) -> u8
     }
 }
 
-// Only a greater score takes over.
-fn outdone(b: Best, at: usize, s: u8) -> Best
-    ensures { result ≡ better b at s }
+// The greatest nonzero score, the lowest descriptor among equals; none where nobody matches.
+pub fn winner(sockets: &[Socket; 16], f: Flow) -> Option<Best>
+    ensures { result ≡ found (best_of sockets.now f) }
 {
-    if b.score < s {
-        Best { at, score: s }
-    } else {
-        b
+    let mut best: Option<Best> = None;
+    for (at, s) in sockets.iter().enumerate() {
+        let score = score(*s, f);
+        if best.map_or(0, |b| b.score) < score {
+            best = Some(Best { at, score });
+        }
     }
-}
-
-// The greatest nonzero score, the lowest descriptor among equals.
-pub fn winner(sockets: [Socket; 16], f: Flow) -> Best
-    ensures { result ≡ best_of sockets f }
-{
-    let mut b = Best { at: 0, score: 0 };
-    for i in 0..16 {
-        let s = score(sockets[i], f);
-        b = outdone(b, i, s);
-    }
-    b
+    best
 }

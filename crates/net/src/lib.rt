@@ -5,20 +5,29 @@ ghost use Rattle.std.specs.Prelude.{◌≡◌};
 ghost use Rattle.net.specs.Address.{no_flow, loopback, martian, stray, agree};
 
 #[repr(C)]
-#[derive(Clone, Copy)]
+#[derive(Clone, Copy, PartialEq, Eq, PartialOrd, Default)]
 pub struct Port(pub u16);
 
 #[repr(C)]
-#[derive(Clone, Copy)]
+#[derive(Clone, Copy, PartialEq, Eq, Default)]
 pub struct Descriptor(pub u8);
 
+// The place that a descriptor names.
+impl From<Descriptor> for usize {
+    ghost from_gives = { λ d n. n ≡ d.0 };
+
+    fn from(d: Descriptor) -> usize {
+        d.0 as usize
+    }
+}
+
 #[repr(C)]
-#[derive(Clone, Copy)]
+#[derive(Clone, Copy, PartialEq, Eq, Default)]
 pub struct InterfaceId(pub u8);
 
 // Where a datagram comes from and where it goes.
 #[repr(C)]
-#[derive(Clone, Copy)]
+#[derive(Clone, Copy, PartialEq, Eq, Default)]
 pub struct Flow {
     pub src: u32,
     pub dst: u32,
@@ -30,12 +39,7 @@ pub struct Flow {
 pub fn no_flow() -> Flow
     ensures { result ≡ no_flow }
 {
-    Flow {
-        src: 0,
-        dst: 0,
-        sport: Port(0),
-        dport: Port(0),
-    }
+    Flow::default()
 }
 
 pub fn is_loopback(a: u32) -> bool
@@ -47,14 +51,14 @@ pub fn is_loopback(a: u32) -> bool
 pub fn is_martian(a: u32) -> bool
     ensures { result ≡ martian a }
 {
-    (a / 16777216 == 0) | (224 <= a / 16777216)
+    a / 16777216 == 0 || 224 <= a / 16777216
 }
 
 // No source of a datagram from outside: martian or loopback.
 pub fn is_stray(a: u32) -> bool
     ensures { result ≡ stray a }
 {
-    is_martian(a) | is_loopback(a)
+    is_martian(a) || is_loopback(a)
 }
 
 // The two addresses are equal under the mask.

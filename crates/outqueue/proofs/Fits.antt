@@ -8,11 +8,11 @@ use Rattle.laws.specs.Decides.{Decides}
 use Rattle.laws.proofs.Decide.{d_eq, f_eq, d_le, d_lt, f_lt, d_yes, d_to, d_and, d_unless, d_cond, d_all}
 use Rattle.state.specs.declared.Interface.{Interface}
 use Rattle.state.specs.declared.OutItem.{OutItem}
-use Rattle.state.specs.Places.{no_item, interface_in}
-use Rattle.state.specs.Interfaces.{own, ours}
+use Rattle.state.specs.Places.{no_item}
+use Rattle.state.specs.Interfaces.{ours}
 use Rattle.outqueue.specs.declared.OutQueue.{OutQueue}
 use Rattle.outqueue.specs.Moves.{source_of, item_at}
-use Rattle.outqueue.specs.Fits.{empty_item, item_ok_of, out_ok, ItemFit, OutFit}
+use Rattle.outqueue.specs.Fits.{empty_item, item_ok, out_ok, ItemFit, OutFit}
 
 empty_is : (x : OutItem) → Decides (empty_item x) (x ≡ no_item)
 empty_is x =
@@ -25,8 +25,7 @@ empty_is x =
         → ◌≡◌ {A = OutItem} (record { flow = record { src = src; dst = dst; sport = record { 0 = sport }; dport = record { 0 = dport } }; len = len; kind = kind }) no_item
     join a b c d e f ea eb ec ed ee ef = rw (ea, eb, ec, ed, ee, ef)
 
-item_is : (is : List Interface) (x : OutItem) → Decides (item_ok_of (interface_in is 0) (interface_in is 1) (interface_in is 2) (interface_in is 3) x) (ItemFit is x)
-unfolding own
+item_is : (is : List Interface) (x : OutItem) → Decides (item_ok is x) (ItemFit is x)
 item_is is x =
     d_to (d_and (d_and (d_and (d_le x.kind 2) (d_le x.len 512)) (d_unless (f_eq x.kind 0) (d_eq x.len 0))) (d_yes (ours is (source_of x))))
     (λ p. record { kind = p.0.0.0; small = p.0.0.1; bare = p.0.1; source = p.1 })

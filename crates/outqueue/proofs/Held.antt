@@ -6,8 +6,8 @@ use mathlib.Core.Logic.{inl, inr, ⊎_elim}
 use Prim.Native.Nat.{ℕ, ◌+◌, ◌-◌, ◌*◌, ◌<◌, ◌≤◌}
 use native.Mathlib.Omega.{arith}
 use lib.ListN.{length, length-set}
+use Rattle.std.proofs.lemmas.Bool.{cases_lt}
 use Rattle.laws.specs.Places.{part}
-use Rattle.laws.proofs.Numbers.{side}
 use Rattle.laws.proofs.Splice.{get_or_copies, length_copies, part_part, popped_length, popped_moved, popped_last, popped_else}
 use Rattle.state.specs.declared.Interface.{Interface}
 use Rattle.state.specs.declared.OutItem.{OutItem}
@@ -77,7 +77,7 @@ module _ (o : OutQueue) (z : Sized o) (s : List ℕ) (w : Room o s) (x : OutItem
 
   add_items : {is : List Interface} → OutFit is o → ItemFit is x → (i : ℕ) → i < o.count + 1 → ItemFit is (item_at after i)
   add_items f g i l =
-      ⊎_elim (λ (m : i < o.count). rw (add_old i m) (f.items i m)) (λ (m : o.count ≤ i). let e : i ≡ o.count = omega arith in rw (e, add_new) g) (side i o.count)
+      ⊎_elim (λ (m : i < o.count). rw (add_old i m) (f.items i m)) (λ (m : o.count ≤ i). let e : i ≡ o.count = omega arith in rw (e, add_new) g) (cases_lt i o.count)
 
   pub add_fit : {is : List Interface} → OutFit is o → ItemFit is x → OutFit is after
   unfolding with_item
@@ -136,7 +136,7 @@ module _ (o : OutQueue) (z : Sized o) (s : List ℕ) (w : Some o s) where
 
   remove_unused : {is : List Interface} → OutFit is o → (i : ℕ) → o.count - 1 ≤ i → i < 16 → item_at rest i ≡ no_item
   remove_unused f i l m =
-      ⊎_elim (λ (x : i < o.count). let e : i ≡ o.count - 1 = omega arith in rw e remove_last) (λ (x : o.count ≤ i). remove_behind i x ∙ f.unused i x m) (side i o.count)
+      ⊎_elim (λ (x : i < o.count). let e : i ≡ o.count - 1 = omega arith in rw e remove_last) (λ (x : o.count ≤ i). remove_behind i x ∙ f.unused i x m) (cases_lt i o.count)
 
   pub remove_fit : {is : List Interface} → OutFit is o → OutFit is rest
   unfolding without_first

@@ -3,8 +3,8 @@ use Rattle.std.specs.Prelude.{ℕ, ◌<◌, ◌≤◌, ◌≡◌, List, ◌≢�
 use Rattle.laws.specs.Below.{all_below}
 use Rattle.state.specs.declared.Interface.{Interface}
 use Rattle.state.specs.declared.OutItem.{OutItem}
-use Rattle.state.specs.Places.{no_item, interface_in}
-use Rattle.state.specs.Interfaces.{ours_of, ours}
+use Rattle.state.specs.Places.{no_item}
+use Rattle.state.specs.Interfaces.{ours}
 use Rattle.outqueue.specs.declared.OutQueue.{OutQueue}
 use Rattle.outqueue.specs.Moves.{source_of, item_at}
 
@@ -17,18 +17,16 @@ empty_item x =
     && eqb x.len 0
     && eqb x.kind 0
 
--- a kind that there is, no payload over 512, none with a notice, and a source of our own (w, x, y and z are the four interfaces)
-abbrev pub item_ok_of : Interface → Interface → Interface → Interface → OutItem → Bool
-item_ok_of w x y z item = leb item.kind 2 && leb item.len 512 && (eqb item.kind 0 || eqb item.len 0) && ours_of w x y z (source_of item)
+-- a kind that there is, no payload over 512, none with a notice, and a source of our own
+abbrev pub item_ok : List Interface → OutItem → Bool
+item_ok is x = leb x.kind 2 && leb x.len 512 && (eqb x.kind 0 || eqb x.len 0) && ours is (source_of x)
 
 -- everything unused is zero
-abbrev pub item_fits : Interface → Interface → Interface → Interface → Bool → OutItem → Bool
-item_fits w x y z used item = cond used (item_ok_of w x y z item) (empty_item item)
+abbrev pub item_fits : List Interface → Bool → OutItem → Bool
+item_fits is used x = cond used (item_ok is x) (empty_item x)
 
 unfoldable pub out_ok : List Interface → OutQueue → Bool
-out_ok is o =
-    leb o.count 16
-    && all_below (λ i. item_fits (interface_in is 0) (interface_in is 1) (interface_in is 2) (interface_in is 3) (ltb i o.count) (item_at o i)) 16
+out_ok is o = leb o.count 16 && all_below (λ i. item_fits is (ltb i o.count) (item_at o i)) 16
 
 -- ---- the same in plain statements
 

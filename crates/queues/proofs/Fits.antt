@@ -3,7 +3,7 @@
 use mathlib.Core.Path.{◌≡◌, ap}
 use mathlib.Core.List.{List}
 use mathlib.Core.Bool.{Bool}
-use Prim.Native.Nat.{ℕ, zero, suc, ◌+◌, ◌*◌, ◌<◌, ◌≤◌}
+use Prim.Native.Nat.{ℕ, ◌<◌, ◌≤◌}
 use native.Mathlib.Omega.{arith}
 use Rattle.laws.specs.Decides.{Decides}
 use Rattle.laws.proofs.Decide.{d_eq, d_le, d_lt, f_lt, f_yes, d_to, d_and, d_unless, d_cond, d_all}
@@ -11,7 +11,7 @@ use Rattle.state.specs.declared.Queued.{Queued}
 use Rattle.state.specs.declared.Socket.{Socket}
 use Rattle.state.specs.Places.{no_head, socket_in}
 use Rattle.queues.specs.declared.Queues.{Queues}
-use Rattle.queues.specs.Moves.{count_at, head_at, first_head}
+use Rattle.queues.specs.Moves.{count_at, head_at}
 use Rattle.queues.specs.Fits.{empty_head, head_fits, queue_ok, queues_ok, QueueFit}
 
 empty_is : (h : Queued) → Decides (empty_head h) (h ≡ no_head)
@@ -33,24 +33,13 @@ place_is : (n i : ℕ) (h : Queued) → Decides (head_fits n i h) (Place n i h)
 unfolding Place
 place_is n i h = d_cond (d_lt i n) (f_lt i n) (d_le h.len 512) (empty_is h)
 
--- four places, one by one
-four : (q : Queues) (k n : ℕ) → ((Place n 0 (first_head q k) × Place n 1 (head_at q k 1)) × Place n 2 (head_at q k 2)) × Place n 3 (head_at q k 3) → (i : ℕ) → i < 4 → Place n i (head_at q k i)
-four q k n p zero m = let e : 4 * k + 0 ≡ 4 * k = omega arith in rw e p.0.0.0
-four q k n p (suc zero) m = p.0.0.1
-four q k n p (suc (suc zero)) m = p.0.1
-four q k n p (suc (suc (suc zero))) m = p.1
-four q k n p (suc (suc (suc (suc i)))) m = absurd (omega arith)
-
 pub queue_is : (live : Bool) (q : Queues) (k : ℕ) → Decides (queue_ok live q k) (QueueFit live q k)
 unfolding Place
 queue_is live q k =
     let n = count_at q k in
-    d_to
-    (d_and (d_and (d_le n 4) (d_unless (f_yes live) (d_eq n 0))) (d_and (d_and (d_and (place_is n 0 (first_head q k)) (place_is n 1 (head_at q k 1))) (place_is n 2 (head_at q k 2))) (place_is n 3 (head_at q k 3))))
-    (λ p. record { few = p.0.0; closed = p.0.1; small = λ i l. (four q k n p.1 i (omega (arith, p.0.0))).0 l; unused = λ i l m. (four q k n p.1 i m).1 l })
-    (λ w. let at : (i : ℕ) → i < 4 → Place (count_at q k) i (head_at q k i) = λ i m. (w.small i, λ l. w.unused i l m) in
-    let e : 4 * k + 0 ≡ 4 * k = omega arith in
-    ((w.few, w.closed), (((rw e at (at 0 (omega arith)), at 1 (omega arith)), at 2 (omega arith)), at 3 (omega arith))))
+    d_to (d_and (d_and (d_le n 4) (d_unless (f_yes live) (d_eq n 0))) (d_all (λ i l. place_is n i (head_at q k i))))
+    (λ p. record { few = p.0.0; closed = p.0.1; small = λ i l. (p.1 i (omega (arith, p.0.0))).0 l; unused = λ i l m. (p.1 i m).1 l })
+    (λ w. ((w.few, w.closed), λ i m. (w.small i, λ l. w.unused i l m)))
 
 pub queues_are : (ks : List Socket) (q : Queues) → Decides (queues_ok ks q) ((k : ℕ) → k < 16 → QueueFit (socket_in ks k).live q k)
 unfolding queues_ok

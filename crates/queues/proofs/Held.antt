@@ -8,8 +8,9 @@ use Prim.Native.Nat.{ℕ, ◌+◌, ◌-◌, ◌*◌, ◌<◌, ◌≤◌}
 use native.Mathlib.Omega.{arith}
 use lib.ListN.{length, length-set}
 use lib.Seq.{get_or-set_same, get_or-set_other}
+use Rattle.std.proofs.lemmas.Bool.{cases_lt}
 use Rattle.laws.specs.Places.{part, splice, copies}
-use Rattle.laws.proofs.Numbers.{side, apart}
+use Rattle.laws.proofs.Numbers.{apart}
 use Rattle.laws.proofs.Splice.{get_or_else, get_or_in, get_or_copies, length_copies, length_splice, part_part, popped_length, popped_moved, popped_last, popped_else}
 use Rattle.state.specs.declared.Queued.{Queued}
 use Rattle.state.specs.Places.{no_head, head_in}
@@ -119,7 +120,7 @@ module _ (q : Queues) (z : Sized q) (s : List ℕ) (k : ℕ) (w : Room q s k) (h
   push_fit_small f e i l =
       ⊎_elim (λ (m : i < count_at q k). rw (push_old i m) (f.small i m))
       (λ (m : count_at q k ≤ i). let x : i ≡ count_at q k = omega arith in rw (x, push_new) e)
-      (side i (count_at q k))
+      (cases_lt i (count_at q k))
 
   push_unused : (i : ℕ) → count_at q k + 1 ≤ i → head_at after k i ≡ head_at q k i
   unfolding with_head
@@ -201,7 +202,7 @@ module _ (q : Queues) (z : Sized q) (s : List ℕ) (k : ℕ) (w : Some q s k) wh
   take_places f i l m =
       ⊎_elim (λ (x : i < 3). take_down i x ∙ f.unused (i + 1) (omega (arith, w.some)) (omega arith))
       (λ (x : 3 ≤ i). let y : i ≡ 3 = omega arith in rw y take_last)
-      (side i 3)
+      (cases_lt i 3)
 
   pub take_fit : QueueFit true q k → QueueFit true rest k
   take_fit f =

@@ -5,7 +5,7 @@ use Rattle.state.specs.declared.Queued.{Queued}
 use Rattle.state.specs.declared.Socket.{Socket}
 use Rattle.state.specs.Places.{no_head, socket_in}
 use Rattle.queues.specs.declared.Queues.{Queues}
-use Rattle.queues.specs.Moves.{count_at, head_at, first_head}
+use Rattle.queues.specs.Moves.{count_at, head_at}
 
 abbrev pub empty_head : Queued → Bool
 empty_head h =
@@ -20,13 +20,9 @@ empty_head h =
 abbrev pub head_fits : ℕ → ℕ → Queued → Bool
 head_fits n i h = cond (ltb i n) (leb h.len 512) (empty_head h)
 
--- the count within its limit, and nothing held by a closed socket
-abbrev pub queue_fits : Bool → ℕ → Queued → Queued → Queued → Queued → Bool
-queue_fits live n a b c d = leb n 4 && (live || eqb n 0) && (head_fits n 0 a && head_fits n 1 b && head_fits n 2 c && head_fits n 3 d)
-
--- socket k's queue
+-- socket k's queue: the count within its limit, nothing held by a closed socket, and every place as it must be
 abbrev pub queue_ok : Bool → Queues → ℕ → Bool
-queue_ok live q k = queue_fits live (count_at q k) (first_head q k) (head_at q k 1) (head_at q k 2) (head_at q k 3)
+queue_ok live q k = leb (count_at q k) 4 && (live || eqb (count_at q k) 0) && all_below (λ i. head_fits (count_at q k) i (head_at q k i)) 4
 
 unfoldable pub queues_ok : List Socket → Queues → Bool
 queues_ok ks q = all_below (λ k. queue_ok (socket_in ks k).live q k) 16

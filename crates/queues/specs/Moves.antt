@@ -1,5 +1,6 @@
 -- What a push, a taking and a clearing leave of the queues and the store
-use Rattle.std.specs.Prelude.{ℕ, ◌+◌, ◌-◌, ◌*◌, ◌<◌, ◌≤◌, ◌≡◌, List, [], Bool, false, cond, length, get_or, set}
+use Rattle.std.specs.Prelude.{ℕ, ◌+◌, ◌-◌, ◌*◌, ◌<◌, ◌≤◌, ◌≡◌, List, [], Bool, false, cond, length, get_or, set, Option, unwrap_or, option_copied}
+use denote.Ref.{Bor}
 use Rattle.laws.specs.Places.{part, splice, copies, popped}
 use Rattle.net.specs.declared.Flow.{Flow}
 use Rattle.net.specs.declared.InterfaceId.{InterfaceId}
@@ -50,6 +51,10 @@ pub record Left : Type 0 where
 
 abbrev pub left : Queues → List ℕ → List ℕ → Left
 left q s b = record { queues = q; bytes = s; lent = b }
+
+-- what is lent, if anything
+abbrev pub lent_bytes : Option (Bor (List ℕ)) → List ℕ
+lent_bytes p = unwrap_or (option_copied p) []
 
 -- the bytes of a datagram: the lent payload or, from inside, the first len bytes of the out-queue's oldest slot
 abbrev pub carried : List ℕ → List ℕ → ℕ → Bool → List ℕ

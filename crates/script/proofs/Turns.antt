@@ -1,19 +1,22 @@
 -- One step of a script, from what it calls.
 -- Assumes nothing.
-use mathlib.Core.Path.{◌≡◌, refl, sym, ap, ◌∙◌}
+use mathlib.Core.Path.{◌≡◌, refl, ap, ◌∙◌}
 use mathlib.Core.List.{List}
-use mathlib.Core.Bool.{Bool, true, false, not, cond}
-use Prim.Native.Nat.{ℕ, ◌+◌, ◌-◌, ◌*◌, ◌≤◌}
+use Prim.Native.Nat.{ℕ, ◌+◌, ◌-◌, ◌*◌, ◌%◌, ◌≤◌}
 use native.Mathlib.Omega.{arith}
-use lib.ListN.{length, take, drop}
+use lib.ListN.{length, replicate, take, drop}
 use Rattle.laws.specs.Places.{part, splice, copies}
 use Rattle.laws.proofs.Splice.{length_copies, part_back}
+use Rattle.std.specs.Prelude.{Some, None}
+use Rattle.host.specs.declared.Host.{Host}
+use Rattle.host.specs.declared.Stepped.{Stepped}
 use Rattle.script.specs.declared.Fields.{Fields}
-use Rattle.script.specs.declared.Made.{Made}
-use Rattle.script.specs.declared.Play.{Play}
+use Rattle.script.specs.declared.lines.Page.{Page}
+use Rattle.script.specs.declared.playing.Memory.{Memory}
 use Rattle.script.specs.Fields.{fields_at}
-use Rattle.script.specs.Steps.{made, making}
-use Rattle.script.specs.Lines.{Wrote, line, closing}
+use Rattle.script.specs.Steps.{Made, made, made_of, making}
+use Rattle.script.specs.Lines.{line, closing}
+use Rattle.script.specs.Pages.{Printed}
 use Rattle.script.specs.Playing.{payload, bad_word, Turn, turn_of, turn, Turned}
 
 -- the lent part of the work area that was filled
@@ -24,30 +27,37 @@ filled_part w t len v h e =
     let s : length (copies v len) ≡ len = length_copies {A = ℕ} v len in
     rw (z, e) (part_back 0 w 0 (copies v len) (omega (arith, s)) 0 len refl s)
 
-module _ (p : Play) (input s b : List ℕ) {f : Fields} {m : Made} {t u x : List ℕ} (ef : f ≡ fields_at input (13 + 16 * p.n)) (ex : x ≡ payload (p.n + 1) f.len) (em : made m t u ≡ making p.host s f x b) where
+-- the part w of the work area, filled
+pub payload_is : (n len : ℕ) (w : List ℕ) {t : List ℕ} → length w ≡ len → (((y : ℕ) → y ≡ n % 256 → y ≡ n % 256) → t ≡ replicate (length w) (n % 256)) → t ≡ payload n len
+unfolding copies
+payload_is n len w l e = e (λ y q. q) ∙ rw l
+
+module _ (n : ℕ) (h : Host) (input s b : List ℕ) {f : Fields} {x : List ℕ} (ef : f ≡ fields_at input (13 + 16 * n)) (ex : x ≡ payload (n + 1) f.len) where
   -- what the step made is the definition's
-  turn_is : turn_of p.n f.kind (made m t u) ≡ turn input p.n p.host s b
-  turn_is =
-      ap (turn_of p.n f.kind) (em ∙ ap (λ (y : List ℕ). making p.host s f y b) ex)
-      ∙ ap (λ (g : Fields). turn_of p.n g.kind (making p.host s g (payload (p.n + 1) g.len) b)) ef
+  turn_is : {r : Made} {t u : List ℕ} → made r t u ≡ making h s f x b → turn_of n f.kind (made r t u) ≡ turn input n h s b
+  turn_is em =
+      ap (turn_of n f.kind) (em ∙ ap (λ (y : List ℕ). making h s f y b) ex)
+      ∙ ap (λ (g : Fields). turn_of n g.kind (making h s g (payload (n + 1) g.len) b)) ef
 
   -- known or not: what it says was printed
-  turned : {out after : List ℕ} {at : ℕ} (k : Bool) → m.known ≡ k → Wrote out p.at (cond k (line (p.n + 1) f.kind m.answer) (closing (p.n + 1) bad_word)) after at
-      → Turned p (turn input p.n p.host s b) (record { host = m.host; at = at; n = p.n + 1; ended = not k }) t u out after
-  turned {out} {after} {at} k e w =
+  pub turned_line : {r : Stepped} {m : Memory} {p q : Page} → made (made_of h (Some r)) m.store m.buffer ≡ making h s f x b → Printed p (line (n + 1) f.kind r.answer) q → Turned (turn input n h s b) (Some r.host) m p q
+  turned_line em w =
+      let e = turn_is em in
       record {
-        host = ap (λ (y : Turn). y.host) turn_is;
-        store = ap (λ (y : Turn). y.bytes) turn_is;
-        buffer = ap (λ (y : Turn). y.lent) turn_is;
-        ended = sym (ap not e) ∙ ap (λ (y : Turn). y.ended) turn_is;
-        count = refl;
-        text = rw (← ap (λ (y : Turn). y.said) turn_is) (simp e w);
+        host = ap (λ (y : Turn). y.host) e;
+        store = ap (λ (y : Turn). y.bytes) e;
+        buffer = ap (λ (y : Turn). y.lent) e;
+        ended = ap (λ (y : Turn). y.ended) e;
+        text = rw (← ap (λ (y : Turn). y.said) e) w;
       }
 
-  pub turned_line : {out after : List ℕ} {at : ℕ} → m.known ≡ true → Wrote out p.at (line (p.n + 1) f.kind m.answer) after at
-      → Turned p (turn input p.n p.host s b) (record { host = m.host; at = at; n = p.n + 1; ended = false }) t u out after
-  turned_line e w = turned true e w
-
-  pub turned_bad : {out after : List ℕ} {at : ℕ} → m.known ≡ false → Wrote out p.at (closing (p.n + 1) bad_word) after at
-      → Turned p (turn input p.n p.host s b) (record { host = m.host; at = at; n = p.n + 1; ended = true }) t u out after
-  turned_bad e w = turned false e w
+  pub turned_bad : {m : Memory} {p q : Page} → made (made_of h None) m.store m.buffer ≡ making h s f x b → Printed p (closing (n + 1) bad_word) q → Turned (turn input n h s b) None m p q
+  turned_bad em w =
+      let e = turn_is em in
+      record {
+        host = tt;
+        store = ap (λ (y : Turn). y.bytes) e;
+        buffer = ap (λ (y : Turn). y.lent) e;
+        ended = ap (λ (y : Turn). y.ended) e;
+        text = rw (← ap (λ (y : Turn). y.said) e) w;
+      }

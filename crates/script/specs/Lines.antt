@@ -1,5 +1,5 @@
 -- A line: step number from 1, answer, descriptor given back or "-", length read or emitted or "-"; ASCII
-use Rattle.std.specs.Prelude.{◌≡◌, List, [], ◌∷◌, ◌++◌, Bool, true, ◌&&◌, ◌||◌, cond, ℕ, zero, suc, ◌+◌, ◌/◌, ◌%◌, eqb, ltb, length}
+use Rattle.std.specs.Prelude.{◌≡◌, List, [], ◌∷◌, ◌++◌, Option, Some, None, Bool, true, false, ◌&&◌, ◌||◌, cond, ℕ, zero, suc, ◌+◌, ◌/◌, ◌%◌, eqb, ltb, length}
 use Rattle.laws.specs.Places.{splice}
 use Rattle.answers.specs.declared.Answer.{Answer}
 
@@ -21,6 +21,11 @@ decimal n = cond (ltb n 10) (digits 1 n) (cond (ltb n 100) (digits 2 n) (cond (l
 -- a space, then the number or "-"
 abbrev pub column : Bool → ℕ → List ℕ
 column given n = 32 ∷ cond given (decimal n) (45 ∷ [])
+
+-- the same of a number that is there or not
+abbrev pub column_of : Option ℕ → List ℕ
+column_of (Some n) = column true n
+column_of None = column false 0
 
 -- socket with 0, and 20 or 21, give a descriptor
 abbrev pub gives_descriptor : ℕ → Answer → Bool

@@ -1,11 +1,13 @@
 -- A script, step by step
-use Rattle.std.specs.Prelude.{◌≡◌, List, [], ◌∷◌, ◌++◌, Bool, false, not, cond, ℕ, zero, suc, ◌+◌, ◌*◌, ◌%◌, ◌≤◌, ◌<◌, length}
+use Rattle.std.specs.Prelude.{◌≡◌, List, [], ◌∷◌, ◌++◌, Bool, false, not, cond, ℕ, zero, suc, ◌+◌, ◌*◌, ◌%◌, ◌≤◌, ◌<◌, length, Option, is_none, IfSome}
 use Rattle.laws.specs.Places.{copies}
 use Rattle.host.specs.declared.Host.{Host}
-use Rattle.script.specs.declared.Play.{Play}
+use Rattle.script.specs.declared.lines.Page.{Page}
+use Rattle.script.specs.declared.playing.Memory.{Memory}
 use Rattle.script.specs.Fields.{fields_at}
 use Rattle.script.specs.Steps.{Making, making}
-use Rattle.script.specs.Lines.{Wrote, line, closing}
+use Rattle.script.specs.Lines.{line, closing}
+use Rattle.script.specs.Pages.{Room, Printed}
 
 -- a payload is L bytes, each the step number modulo 256
 abbrev pub payload : ℕ → ℕ → List ℕ
@@ -29,21 +31,19 @@ turn_of n kind m = record { host = m.host; bytes = m.bytes; lent = m.lent; said 
 abbrev pub turn : List ℕ → ℕ → Host → List ℕ → List ℕ → Turn
 turn input n h s b = turn_of n (fields_at input (13 + 16 * n)).kind (making h s (fields_at input (13 + 16 * n)) (payload (n + 1) (fields_at input (13 + 16 * n)).len) b)
 
--- r is p one step further: t was printed behind what was there
-pub record Turned (p : Play) (t : Turn) (r : Play) (bytes lent out after : List ℕ) : Type 0 where
-  pub host : r.host ≡ t.host
-  pub store : bytes ≡ t.bytes
-  pub buffer : lent ≡ t.lent
-  pub ended : r.ended ≡ t.ended
-  pub count : r.n ≡ p.n + 1
-  pub text : Wrote out p.at t.said after r.at
+-- r is the host one step further, none where that ends the script; q is the page p with what was printed
+pub record Turned (t : Turn) (r : Option Host) (m : Memory) (p q : Page) : Type 0 where
+  pub host : IfSome r (λ h. h ≡ t.host)
+  pub store : m.store ≡ t.bytes
+  pub buffer : m.buffer ≡ t.lent
+  pub ended : is_none r ≡ t.ended
+  pub text : Printed p t.said q
 
--- there is a step, and room for its line and its payload
-pub record Playable (p : Play) (input out work : List ℕ) : Type 0 where
-  pub few : p.n < 60000
-  pub step : 29 + 16 * p.n ≤ length input
-  pub room : p.at + 24 ≤ length out
-  pub long : 65535 ≤ length work
+-- there is a step n + 1, and room for its line
+pub record Playable (n : ℕ) (input : List ℕ) (p : Page) : Type 0 where
+  pub few : n < 60000
+  pub step : 29 + 16 * n ≤ length input
+  pub room : Room p 24
 
 -- ---- many steps
 
@@ -68,20 +68,16 @@ played input q (suc k) =
 abbrev pub starting : Host → List ℕ → List ℕ → State
 starting h s b = record { host = h; bytes = s; lent = b; text = []; ended = false }
 
--- p is at the state q: its text stands at the start of the slice
-pub record At (q : State) (p : Play) (bytes lent out after : List ℕ) : Type 0 where
-  pub host : p.host ≡ q.host
-  pub store : bytes ≡ q.bytes
-  pub buffer : lent ≡ q.lent
-  pub ended : p.ended ≡ q.ended
-  pub text : Wrote out 0 q.text after p.at
+-- r is the host at the state q, none where the script has ended; b is the page a with all that was printed
+pub record At (q : State) (r : Option Host) (m : Memory) (a b : Page) : Type 0 where
+  pub host : IfSome r (λ h. h ≡ q.host)
+  pub store : m.store ≡ q.bytes
+  pub buffer : m.buffer ≡ q.lent
+  pub ended : is_none r ≡ q.ended
+  pub text : Printed a q.text b
 
 -- the m steps are there, and room for their lines
-pub record Stage (p : Play) (m : ℕ) (input out work : List ℕ) : Type 0 where
-  pub first : p.n ≡ 0
-  pub start : p.at ≡ 0
-  pub going : p.ended ≡ false
+pub record Stage (m : ℕ) (input : List ℕ) (p : Page) : Type 0 where
   pub few : m ≤ 60000
   pub steps : 13 + 16 * m ≤ length input
-  pub room : 24 * m ≤ length out
-  pub long : 65535 ≤ length work
+  pub room : Room p (24 * m)

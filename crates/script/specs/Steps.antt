@@ -1,12 +1,12 @@
 -- Which step a script's 16 bytes are: the kind chooses the host call, unused fields are ignored
-use Rattle.std.specs.Prelude.{ℕ, List, Bool, true, false, ◌&&◌, ◌||◌, not, cond, eqb, leb}
+use Rattle.std.specs.Prelude.{ℕ, List, Bool, true, false, ◌&&◌, ◌||◌, not, cond, eqb, leb, Option, Some, None}
 use Rattle.answers.specs.declared.Answer.{Answer}
 use Rattle.host.specs.declared.Host.{Host}
+use Rattle.host.specs.declared.Stepped.{Stepped}
 use Rattle.answers.specs.Answers.{plain}
 use Rattle.host.specs.Answers.{Outcome}
 use Rattle.history.specs.Steps.{Step, after, socket, bind, connect, disconnect, sendto, recvfrom, close, setopt, datagram, notice, outstep, exit}
 use Rattle.script.specs.declared.Fields.{Fields}
-use Rattle.script.specs.declared.Made.{Made}
 use Rattle.script.specs.Fields.{flow_in}
 
 -- kinds: 1 socket, 2 bind A P, 3 connect A P, 4 disconnect, 5 sendto A P, 6 recvfrom nonblocking, 7 close, 8 set reuse to (P nonzero), 9 datagram A:P to B:Q,
@@ -28,6 +28,17 @@ step_of k f p b =
 -- 1 to 12 are kinds, others are bad
 abbrev pub known : ℕ → Bool
 known k = not (eqb k 0) && leb k 12
+
+-- what a step made of the host; not known: a kind that is none
+pub record Made : Type 0 where
+  pub host : Host
+  pub answer : Answer
+  pub known : Bool
+
+-- of the host h; nothing was made where the kind is none
+abbrev pub made_of : Host → Option Stepped → Made
+made_of h (Some r) = record { host = r.host; answer = r.answer; known = true }
+made_of h None = record { host = h; answer = plain 0; known = false }
 
 -- ---- with the store and the lent buffer
 

@@ -1,146 +1,102 @@
 // What is printed: text put into a slice, behind what stands there.
-ghost use Rattle.std.specs.Prelude.{◌≡◌, [], ◌∷◌, ◌+◌, ◌≤◌, ◌<◌, length};
-ghost use Rattle.script.specs.Lines.{Wrote, digits, decimal, column, gives_descriptor, gives_length, line_length, given, line, closing};
+ghost use Rattle.std.specs.Prelude.{◌≡◌, ◌+◌, ◌<◌, length, Some, None, IfSome, if◌then◌else◌};
+ghost use Rattle.script.specs.Lines.{decimal, column_of, gives_descriptor, gives_length, line_length, line, closing};
+ghost use Rattle.script.specs.Pages.{Room, Printed};
 
 use answers::Answer;
 
-// One byte.
-fn put(out: &mut [u8], at: usize, byte: u8) -> usize
-    requires { at + 1 ≤ length out.old }
-    ensures { Wrote out.old at (byte ∷ []) out.new result }
-{
-    out[at] = byte;
-    at + 1
+// A slice that is lent, and where the text in it ends.
+// stays: a length beside the slice, since std's writers do not promise which bytes stand where.
+#[derive(Drop)]
+pub(crate) struct Page<'a> {
+    pub out: &'a mut [u8],
+    pub at: usize,
 }
 
-fn put_one(out: &mut [u8], at: usize, n: u32) -> usize
-    requires { (at + 1 ≤ length out.old) × (n < 10) }
-    ensures { Wrote out.old at (digits 1 n) out.new result }
-{
-    put(out, at, 48 + n as u8)
-}
-
-fn put_two(out: &mut [u8], at: usize, n: u32) -> usize
-    requires { (at + 2 ≤ length out.old) × (n < 100) }
-    ensures { Wrote out.old at (digits 2 n) out.new result }
-{
-    let i = put_one(out, at, n / 10);
-    put_one(out, i, n % 10)
-}
-
-fn put_three(out: &mut [u8], at: usize, n: u32) -> usize
-    requires { (at + 3 ≤ length out.old) × (n < 1000) }
-    ensures { Wrote out.old at (digits 3 n) out.new result }
-{
-    let i = put_two(out, at, n / 10);
-    put_one(out, i, n % 10)
-}
-
-fn put_four(out: &mut [u8], at: usize, n: u32) -> usize
-    requires { (at + 4 ≤ length out.old) × (n < 10000) }
-    ensures { Wrote out.old at (digits 4 n) out.new result }
-{
-    let i = put_three(out, at, n / 10);
-    put_one(out, i, n % 10)
-}
-
-fn put_five(out: &mut [u8], at: usize, n: u32) -> usize
-    requires { (at + 5 ≤ length out.old) × (n < 100000) }
-    ensures { Wrote out.old at (digits 5 n) out.new result }
-{
-    let i = put_four(out, at, n / 10);
-    put_one(out, i, n % 10)
-}
-
-// A number below 100,000 in decimal.
-fn put_number(out: &mut [u8], at: usize, n: u32) -> usize
-    requires { (at + 5 ≤ length out.old) × (n < 100000) }
-    ensures { Wrote out.old at (decimal n) out.new result × (result ≤ at + 5) }
-{
-    if n < 10 {
-        return put_one(out, at, n);
+impl Page<'_> {
+    // All of a text.
+    pub(crate) fn put(&mut self, text: &[u8])
+        requires { Room self.old (length text.now) }
+        ensures { Printed self.old text.now self.new }
+    {
+        let out = &mut *self.out;
+        let end = self.at + text.len();
+        out[self.at..end].copy_from_slice(text);
+        self.at = end;
     }
-    if n < 100 {
-        return put_two(out, at, n);
-    }
-    if n < 1000 {
-        return put_three(out, at, n);
-    }
-    if n < 10000 {
-        return put_four(out, at, n);
-    }
-    put_five(out, at, n)
-}
 
-// A space, then a number or "-".
-fn put_column(out: &mut [u8], at: usize, given: bool, n: u32) -> usize
-    requires { (at + 6 ≤ length out.old) × (n < 100000) }
-    ensures { Wrote out.old at (column given n) out.new result × (result ≤ at + 6) }
-{
-    let i = put(out, at, 32);
-    if given {
-        return put_number(out, i, n);
+    // A number, in decimal.
+    // stays: digits by hand: `write!` promises its text only where it answers Ok, and the crates stand on std alone.
+    #[tactic(auto, using(crate::proofs::Text::decimal_grows, crate::proofs::Text::decimal_digit))]
+    fn put_number(&mut self, n: u32)
+        requires small { n < 100000 }
+        requires room { Room self.old (length (decimal n)) }
+        ensures { Printed self.old (decimal n) self.new }
+    {
+        if n >= 10 {
+            self.put_number(n / 10);
+        }
+        self.put(&[b'0' + (n % 10) as u8]);
     }
-    put(out, i, 45)
+
+    // stays: n < 100000 is a clause, here and above, since a step's number and an answer's lengths differ in type.
+    // A space, then a number or "-".
+    #[tactic(auto, using(crate::proofs::Text::decimal_length))]
+    fn put_column(&mut self, given: Option<u32>)
+        requires small { IfSome given (λ n. n < 100000) }
+        requires room { Room self.old 6 }
+        ensures { Printed self.old (column_of given) self.new }
+    {
+        self.put(b" ");
+        match given {
+            Some(n) => self.put_number(n),
+            None => self.put(b"-"),
+        }
+    }
+
+    // The line of step n.
+    #[tactic(auto, using(crate::proofs::Text::decimal_length, crate::proofs::Text::column_of_length))]
+    pub(crate) fn put_line(&mut self, n: u32, kind: u8, a: Answer)
+        requires small { n < 100000 }
+        requires room { Room self.old 24 }
+        ensures { Printed self.old (line n kind a) self.new }
+    {
+        self.put_number(n);
+        self.put_column(Some(a.number as u32));
+        self.put_column(descriptor_given(kind, a));
+        self.put_column(length_given(kind, a));
+        self.put(b"\n");
+    }
+
+    // Step n and the words that end a script there.
+    #[tactic(auto, using(crate::proofs::Text::decimal_length, crate::proofs::Text::put_then), unfolding(crate::specs::Lines::closing))]
+    pub(crate) fn put_closing(&mut self, n: u32, words: &[u8])
+        requires small { n < 100000 }
+        requires room { Room self.old (5 + length words.now) }
+        ensures { Printed self.old (closing n words.now) self.new }
+    {
+        self.put_number(n);
+        self.put(words);
+    }
 }
 
 // Who gives a descriptor, and who a length.
-fn gives_descriptor(kind: u8, a: Answer) -> bool
-    ensures { result ≡ gives_descriptor kind a }
+// stays: numbers: the kind is document 01's byte and the other is C's; a pattern is a literal and no cast.
+fn descriptor_given(kind: u8, a: Answer) -> Option<u32>
+    ensures { result ≡ (if gives_descriptor kind a then Some a.descriptor.0 else None) }
 {
-    ((kind == 1) & (a.number == 0)) | (a.number == 20) | (a.number == 21)
-}
-
-fn gives_length(kind: u8, a: Answer) -> bool
-    ensures { result ≡ gives_length kind a }
-{
-    ((kind == 6) & (a.number == 0)) | ((kind == 11) & (a.number == 30))
-}
-
-fn line_length(kind: u8, a: Answer) -> u16
-    ensures { result ≡ line_length kind a }
-{
-    if kind == 11 { a.item.len } else { a.len }
-}
-
-// The last two columns, and the end of the line.
-fn put_given(out: &mut [u8], at: usize, kind: u8, a: Answer) -> usize
-    requires { at + 13 ≤ length out.old }
-    ensures { Wrote out.old at (given kind a) out.new result }
-{
-    let i = put_column(out, at, gives_descriptor(kind, a), a.descriptor.0 as u32);
-    let j = put_column(out, i, gives_length(kind, a), line_length(kind, a) as u32);
-    put(out, j, 10)
-}
-
-// The line of step n.
-pub(crate) fn put_line(out: &mut [u8], at: usize, n: u32, kind: u8, a: Answer) -> usize
-    requires { (at + 24 ≤ length out.old) × (n < 100000) }
-    ensures { Wrote out.old at (line n kind a) out.new result }
-{
-    let i = put_number(out, at, n);
-    let j = put_column(out, i, true, a.number as u32);
-    put_given(out, j, kind, a)
-}
-
-// All of a text.
-pub(crate) fn put_text(out: &mut [u8], at: usize, text: &[u8]) -> usize
-    requires { at + length text.now ≤ length out.old }
-    ensures { Wrote out.old at text.now out.new result }
-{
-    let mut j = 0;
-    while j < text.len() {
-        out[at + j] = text[j];
-        j += 1;
+    match (kind, a.number) {
+        (1, 0) | (_, 20 | 21) => Some(a.descriptor.0 as u32),
+        _ => None,
     }
-    at + j
 }
 
-// Step n and the words that end a script there.
-pub(crate) fn put_closing(out: &mut [u8], at: usize, n: u32, words: &[u8]) -> usize
-    requires { (at + 5 + length words.now ≤ length out.old) × (n < 100000) }
-    ensures { Wrote out.old at (closing n words.now) out.new result }
+fn length_given(kind: u8, a: Answer) -> Option<u32>
+    ensures { result ≡ (if gives_length kind a then Some (line_length kind a) else None) }
 {
-    let i = put_number(out, at, n);
-    put_text(out, i, words)
+    match (kind, a.number) {
+        (6, 0) => Some(a.len as u32),
+        (11, 30) => Some(a.item.len as u32),
+        _ => None,
+    }
 }

@@ -1,74 +1,61 @@
 // A script, step by step.
-ghost use Rattle.std.specs.Prelude.{◌≡◌, ◌≤◌, ◌*◌, length};
-ghost use Rattle.laws.specs.Places.{splice, copies};
+ghost use Rattle.std.specs.Prelude.{◌≡◌, ◌+◌, ◌≤◌, ◌*◌};
 ghost use Rattle.script.specs.Playing.{turn, Turned, Playable, played, starting, At, Stage};
 
-use crate::{Play, lines};
+use crate::lines::Page;
+use crate::{HEADER, STEP};
+use host::Host;
 
-// The first n bytes of s are v.
-fn fill(s: &mut [u8], n: usize, v: u8)
-    requires { n ≤ length s.old }
-    ensures { s.new ≡ splice s.old 0 (copies v n) }
-{
-    let mut j = 0;
-    while j < n {
-        s[j] = v;
-        j += 1;
-    }
+// The bytes of the host's store, of a lent buffer, and of the longest payload.
+pub(crate) const STORE: usize = 40960;
+
+pub(crate) const BUFFER: usize = 512;
+
+pub(crate) const PAYLOAD: usize = 65535;
+
+// What a run lends: the host's store and buffer, and room for the longest payload.
+#[derive(Drop)]
+pub(crate) struct Memory {
+    pub store: [u8; STORE],
+    pub buffer: [u8; BUFFER],
+    pub work: [u8; PAYLOAD],
 }
 
-// One step further.
-fn advance(
-    p: Play,
-    input: &[u8],
-    out: &mut [u8],
-    store: &mut [u8],
-    work: &mut [u8],
-    buffer: &mut [u8],
-) -> Play
-    requires { Playable p input.now out.old work.old }
-    ensures { Turned p (turn input.now p.n p.host store.old buffer.old) result store.new buffer.new out.old out.new }
+// Step n + 1; no host where its kind is bad, which ends the script.
+fn advance(host: Host, n: u32, input: &[u8], page: &mut Page, memory: &mut Memory) -> Option<Host>
+    requires { Playable n input.now page.old }
+    ensures { Turned (turn input.now n host memory.old.store memory.old.buffer) result memory.new page.old page.new }
 {
-    let n = p.n + 1;
-    let f = crate::fields_at(input, 13 + 16 * p.n as usize);
-    let len = f.len as usize;
-    fill(work, len, (n % 256) as u8);
-    let before = p.host;
-    let m = crate::make(before, store, f, &work[0..len], buffer);
-    let host = m.host;
-    let answer = m.answer;
-    if m.known {
-        return Play {
-            host,
-            at: lines::put_line(out, p.at, n, f.kind, answer),
-            n,
-            ended: false,
-        };
-    }
-    Play {
-        host,
-        at: lines::put_closing(out, p.at, n, b" bad\n"),
-        n,
-        ended: true,
-    }
+    let f = crate::fields_at(input, HEADER + STEP * n as usize);
+    let Memory {
+        store,
+        buffer,
+        work,
+    } = memory;
+    let (payload, _) = work.split_at_mut(f.len as usize);
+    payload.fill(((n + 1) % 256) as u8);
+    let Some(made) = crate::make(host, store, f, payload, buffer) else {
+        page.put_closing(n + 1, b" bad\n");
+        return None;
+    };
+    page.put_line(n + 1, f.kind, made.answer);
+    Some(made.host)
 }
 
 // The m steps, up to one that ends the script.
 pub(crate) fn play(
-    start: Play,
+    start: Host,
     m: u32,
     input: &[u8],
-    out: &mut [u8],
-    store: &mut [u8],
-    work: &mut [u8],
-    buffer: &mut [u8],
-) -> Play
-    requires { Stage start m input.now out.old work.old }
-    ensures { At (played input.now (starting start.host store.old buffer.old) m) result store.new buffer.new out.old out.new × (result.at ≤ 24 * m) }
+    page: &mut Page,
+    memory: &mut Memory,
+) -> Option<Host>
+    requires { Stage m input.now page.old }
+    ensures { At (played input.now (starting start memory.old.store memory.old.buffer) m) result memory.new page.old page.new }
 {
-    let mut p = start;
-    while (p.n < m) & !p.ended {
-        p = advance(p, input, out, store, work, buffer);
+    let mut host = start;
+    for n in 0..m {
+        host = advance(host, n, input, page, memory)?;
     }
-    p
+    Some(host)
 }

@@ -1,21 +1,26 @@
 // A whole script in memory.
-ghost use Rattle.std.specs.Prelude.{◌≡◌, ◌+◌, ◌≤◌, length};
-ghost use Rattle.store.specs.Store.{zeros};
-ghost use Rattle.script.specs.Lines.{Wrote};
+ghost use Rattle.std.specs.Prelude.{◌≡◌, ◌+◌, ◌≤◌, false, length};
+ghost use Rattle.script.specs.Pages.{Room, Printed};
 ghost use Rattle.script.specs.Whole.{headed, interfaces_in, steps_in, left_over, output_from, ran, running};
 
-use crate::{Play, lines, playing};
+use crate::lines::Page;
+use crate::playing::{self, BUFFER, Memory, PAYLOAD, STORE};
+use crate::{HEADER, STEP};
+use answers::Report;
 use host::Host;
 use net::InterfaceId;
 use state::Interface;
 
+// The step that ends a script after its own line.
+const LAST: u32 = 60000;
+
+// The bytes that the longest output takes.
+pub const LONGEST: usize = 1440032;
+
 fn is_headed(input: &[u8]) -> bool
     ensures { result ≡ headed input.now }
 {
-    if input.len() < 13 {
-        return false;
-    }
-    (input[0] == 85) & (input[1] == 68) & (input[2] == 83) & (crate::word_at(input, 3) == 1)
+    input.len() >= HEADER && input.starts_with(b"UDS") && crate::word_at(input, 3) == 1
 }
 
 // Interface 1, and no other.
@@ -23,99 +28,69 @@ fn interfaces_in(input: &[u8]) -> [Interface; 4]
     requires { 13 ≤ length input.now }
     ensures { result ≡ interfaces_in input.now }
 {
-    let x = Interface {
+    let none = Interface::default();
+    let one = Interface {
         mask: crate::long_at(input, 9),
         first: crate::long_at(input, 5),
-        second: 0,
-        third: 0,
-        fourth: 0,
         id: InterfaceId(1),
+        ..none
     };
-    let none = state::interfaces::no_interface();
-    [x, none, none, none]
+    [one, none, none, none]
 }
 
+// stays: 13 ≤ len is a clause, since a header that is there is known of the length alone.
 // The whole steps of a script of len bytes, at most 60,000.
 fn steps_in(len: usize) -> u32
     requires { 13 ≤ len }
-    ensures { (result ≡ steps_in len) × (result ≤ 60000) }
+    ensures count { result ≡ steps_in len }
+    ensures few { result ≤ 60000 }
 {
-    let n = (len - 13) / 16;
-    if n < 60000 { n as u32 } else { 60000 }
+    ((len - HEADER) / STEP).min(LAST as usize) as u32
 }
 
-fn is_left_over(len: usize, ended: bool) -> bool
+// Of a script that no step ends.
+fn is_left_over(len: usize) -> bool
     requires { 13 ≤ len }
-    ensures { result ≡ left_over len ended }
+    ensures { result ≡ left_over len false }
 {
-    !ended & (steps_in(len) < 60000) & ((len - 13) % 16 != 0)
+    steps_in(len) < LAST && (len - HEADER) % STEP != 0
 }
 
-// All that the script prints goes to the start of out, and is as long as the result says.
-fn print(
-    input: &[u8],
-    out: &mut [u8],
-    store: &mut [u8],
-    work: &mut [u8],
-    buffer: &mut [u8],
-) -> usize
-    requires { (1440032 ≤ length out.old) × (65535 ≤ length work.old) }
-    ensures { Wrote out.old 0 (output_from input.now store.old buffer.old) out.new result × (result ≤ 1440032) }
+// All that the script prints.
+fn print(input: &[u8], page: &mut Page, memory: &mut Memory)
+    requires { Room page.old 1440032 }
+    ensures { Printed page.old (output_from input.now memory.old.store memory.old.buffer) page.new }
 {
     if !is_headed(input) {
-        return lines::put_text(out, 0, b"bad header\n");
+        return page.put(b"bad header\n");
     }
-    let opened = Host::opening(interfaces_in(input), 1, store);
-    if opened.answer.number != 0 {
-        return lines::put_text(out, 0, b"bad interface\n");
+    let opened = Host::opening(interfaces_in(input), 1, &mut memory.store);
+    if opened.answer.number != Report::Done as u8 {
+        return page.put(b"bad interface\n");
     }
-    let host = opened.host;
-    let start = Play {
-        host,
-        at: 0,
-        n: 0,
-        ended: false,
-    };
     let m = steps_in(input.len());
-    let p = playing::play(start, m, input, out, store, work, buffer);
-    if is_left_over(input.len(), p.ended) {
-        return lines::put_closing(out, p.at, m + 1, b" short\n");
+    let played = playing::play(opened.host, m, input, page, memory);
+    if played.is_some() && is_left_over(input.len()) {
+        page.put_closing(m + 1, b" short\n");
     }
-    p.at
-}
-
-// ---- what a run lends to its host
-
-fn store_space() -> [u8; 40960]
-    ensures { result ≡ zeros 40960 }
-{
-    [0u8; 40960]
-}
-
-fn buffer_space() -> [u8; 512]
-    ensures { result ≡ zeros 512 }
-{
-    [0u8; 512]
-}
-
-// Room for the longest payload.
-fn work_space() -> [u8; 65535]
-    ensures { length result ≡ 65535 }
-{
-    [0u8; 65535]
 }
 
 // All that a script prints goes to the start of out, and is as long as the result says. Where out has not the 1,440,032
 // bytes that the longest output takes, nothing is written and the result is that number.
+// stays: a number and no Result, as promised: a length, or the room that it needs.
 pub fn run(input: &[u8], out: &mut [u8]) -> usize
     ensures out_after { ran result out.new ≡ running input.now out.old }
     ensures upper_bound { result ≤ 1440032 }
 {
-    if out.len() < 1440032 {
-        return 1440032;
+    if out.len() < LONGEST {
+        return LONGEST;
     }
-    let mut store = store_space();
-    let mut work = work_space();
-    let mut buffer = buffer_space();
-    print(input, out, &mut store, &mut work, &mut buffer)
+    let mut memory = Memory {
+        store: [0; STORE],
+        buffer: [0; BUFFER],
+        work: [0; PAYLOAD],
+    };
+    let mut page = Page { out, at: 0 };
+    print(input, &mut page, &mut memory);
+    page.at
 }

@@ -6,10 +6,11 @@ use mathlib.Core.Logic.{◌≢◌, ◌⊎◌, inl, inr, ⊎_elim}
 use mathlib.Core.Bool.{Bool, true, false, false≢true}
 use Prim.Native.Nat.{ℕ, ◌<◌, ◌≤◌}
 use native.Mathlib.Omega.{arith}
+use Rattle.std.proofs.lemmas.Bool.{cases_Bool, cases_lt}
 use Rattle.laws.specs.Below.{all_below}
 use Rattle.laws.specs.Decides.{Decides}
-use Rattle.laws.proofs.Numbers.{side, apart}
-use Rattle.laws.proofs.Tests.{two, not_both}
+use Rattle.laws.proofs.Numbers.{apart}
+use Rattle.laws.proofs.Tests.{not_both}
 use Rattle.laws.proofs.Below.{all_from}
 use Rattle.laws.proofs.Decide.{d_eq, f_eq, d_lt, f_lt, d_yes, f_yes, d_to, d_not, f_not, d_and, d_or, d_unless, d_cond, d_all}
 use Rattle.state.specs.declared.Interface.{Interface}
@@ -59,7 +60,7 @@ local_is is s =
     (λ q. (λ e. refl, λ d. ⊎_elim (λ e. absurd (d e)) (λ e. e) q))
   where
     zero_or : (a : ℕ) → (a ≡ 0) ⊎ (a ≢ 0)
-    zero_or a = ⊎_elim (λ (w : a < 1). inl (omega arith)) (λ (w : 1 ≤ a). inr (λ e. omega arith)) (side a 1)
+    zero_or a = ⊎_elim (λ (w : a < 1). inl (omega arith)) (λ (w : 1 ≤ a). inr (λ e. omega arith)) (cases_lt a 1)
 
 pub socket_is : (is : List Interface) (s : Socket) → Decides (socket_ok is s) (SocketFit is s)
 socket_is is s =
@@ -68,7 +69,7 @@ socket_is is s =
     (λ p. ⊎_elim
     (λ x. let q = p.0 x in record { closed = p.1; chain = q.0.0; local = q.0.1; error = q.1 })
     (λ x. let e = p.1 x in record { closed = p.1; chain = rw e nobody_chained; local = inl (ap (λ (y : Socket). y.laddr) e); error = inl (ap (λ (y : Socket). y.error) e) })
-    (two s.live))
+    (cases_Bool s.live))
     (λ w. (λ x. ((w.chain, w.local), w.error), w.closed))
   where
     nobody_chained : Chained no_socket
@@ -80,7 +81,7 @@ sockets_are is ks = d_all (λ k l. socket_is is (socket_in ks k))
 
 -- a closed one has no local port
 pub port_live : {is : List Interface} {s : Socket} → SocketFit is s → s.lport.0 ≢ 0 → s.live ≡ true
-port_live {s = s} f n = ⊎_elim (λ x. x) (λ x. absurd (n (ap (λ (y : Socket). y.lport.0) (f.closed x)))) (two s.live)
+port_live {s = s} f n = ⊎_elim (λ x. x) (λ x. absurd (n (ap (λ (y : Socket). y.lport.0) (f.closed x)))) (cases_Bool s.live)
 
 -- ---- two sockets
 
@@ -128,7 +129,7 @@ pub open_is : (ks : List Socket) (k : ℕ) → Decides (open_at ks k) ((k < 16) 
 unfolding open_at
 open_is ks k =
     d_to (d_cond (d_lt k 16) (f_lt k 16) (d_yes (socket_in ks k).live) (d_yes false))
-    (λ p. ⊎_elim (λ (w : k < 16). (w, p.0 w)) (λ (w : 16 ≤ k). not_both (p.1 w) refl) (side k 16))
+    (λ p. ⊎_elim (λ (w : k < 16). (w, p.0 w)) (λ (w : 16 ≤ k). not_both (p.1 w) refl) (cases_lt k 16))
     (λ q. (λ w. q.1, λ w. absurd (omega arith)))
 
 bound_is : (ks : List Socket) (k : ℕ) → Decides (bound_at ks k) (Bound ks k)
@@ -136,7 +137,7 @@ unfolding bound_at
 bound_is ks k =
     d_to
     (d_cond (d_lt k 16) (f_lt k 16) (d_and (d_yes (socket_in ks k).live) (d_not (f_eq (socket_in ks k).lport.0 0))) (d_yes false))
-    (λ p. ⊎_elim (λ (w : k < 16). record { small = w; live = (p.0 w).0; port = (p.0 w).1 }) (λ (w : 16 ≤ k). not_both (p.1 w) refl) (side k 16))
+    (λ p. ⊎_elim (λ (w : k < 16). record { small = w; live = (p.0 w).0; port = (p.0 w).1 }) (λ (w : 16 ≤ k). not_both (p.1 w) refl) (cases_lt k 16))
     (λ q. (λ w. (q.live, q.port), λ w. absurd (omega (arith, q.small))))
 
 pub thread_is : (ks : List Socket) (t : Thread) → Decides (thread_ok ks t) (Awaited ks t)

@@ -6,9 +6,10 @@ use mathlib.Core.Logic.{◌≢◌, ◌⊎◌, inl, inr, ⊎_elim}
 use mathlib.Core.Bool.{true, false}
 use Prim.Native.Nat.{ℕ, zero, suc, ◌<◌, ◌≤◌}
 use native.Mathlib.Omega.{arith}
+use Rattle.std.proofs.lemmas.Bool.{cases_Bool, cases_eq}
 use Rattle.laws.specs.Decides.{Decides}
-use Rattle.laws.proofs.Numbers.{apart, same_or_not}
-use Rattle.laws.proofs.Tests.{two, not_both}
+use Rattle.laws.proofs.Numbers.{apart}
+use Rattle.laws.proofs.Tests.{not_both}
 use Rattle.laws.proofs.Decide.{d_eq, f_eq, d_le, d_lt, f_lt, d_yes, d_to, d_not, f_not, d_and, d_or, f_absurd, d_unless, d_cond, d_all}
 use Rattle.net.specs.Address.{loopback, martian, agree}
 use Rattle.net.proofs.Address.{agree_sym, agree_trans}
@@ -61,7 +62,7 @@ acceptable_is : (a : ℕ) → Decides (acceptable a) (a ≢ 0 → (loopback a �
 acceptable_is a =
     d_unless (f_eq a 0)
     (d_to (d_not (f_absurd (d_or (d_yes (martian a)) (d_yes (loopback a)))))
-    (λ n. (⊎_elim (λ e. absurd (n (inr e))) (λ e. e) (two (loopback a)), ⊎_elim (λ e. absurd (n (inl e))) (λ e. e) (two (martian a))))
+    (λ n. (⊎_elim (λ e. absurd (n (inr e))) (λ e. e) (cases_Bool (loopback a)), ⊎_elim (λ e. absurd (n (inl e))) (λ e. e) (cases_Bool (martian a))))
     (λ p q. ⊎_elim (λ e. not_both e p.1) (λ e. not_both e p.0) q))
 
 usable_is : (x : Interface) → Decides (usable x) (Usable x)
@@ -149,7 +150,7 @@ module _ {is : List Interface} {n : ℕ} (few : n ≤ 4) (fit : (i : ℕ) → i 
       ⊎_elim (λ e. e)
       (λ d. ⊎_elim (λ (m : p < q). absurd ((here i l).distinct q h.0 p m (λ z. h.2 (sym h.1 ∙ z)) (h.1 ∙ sym g.1)))
       (λ (m : q < p). absurd ((here i l).distinct p g.0 q m (λ z. g.2 (sym g.1 ∙ z)) (g.1 ∙ sym h.1))) (apart p q d))
-      (same_or_not p q)
+      (cases_eq p q)
 
   two_places : (i j p q a : ℕ) → i < n → j < i → HasAt (interface_in is i) p a → HasAt (interface_in is j) q a → ⊥
   two_places i j p q a l m g h = (pair j i l m).addresses p g.0 (λ z. g.2 (sym g.1 ∙ z)) (q, h.0, h.1 ∙ sym g.1)
@@ -158,7 +159,7 @@ module _ {is : List Interface} {n : ℕ} (few : n ≤ 4) (fit : (i : ℕ) → i 
   all_distinct i j p q a l m g h =
       ⊎_elim (λ (e : i ≡ j). (e, one_place i p q a l g (rw e h)))
       (λ d. ⊎_elim (λ (w : i < j). absurd (two_places j i q p a m w h g)) (λ (w : j < i). absurd (two_places i j p q a l w g h)) (apart i j d))
-      (same_or_not i j)
+      (cases_eq i j)
 
   opened : Opened is n
   opened =

@@ -6,8 +6,8 @@ use mathlib.Core.Logic.{◌≢◌, ◌⊎◌, inl, inr, ⊎_elim}
 use mathlib.Core.Bool.{true, false}
 use Prim.Native.Nat.{ℕ, zero, suc, ◌<◌}
 use native.Mathlib.Omega.{arith}
+use Rattle.std.proofs.lemmas.Bool.{cases_lt}
 use Rattle.laws.specs.Decides.{Decides}
-use Rattle.laws.proofs.Numbers.{side}
 use Rattle.laws.proofs.Below.{lowest_passes, lowest_before}
 use Rattle.laws.proofs.Decide.{d_yes, f_eq, d_not, d_and, d_or, d_to}
 use Rattle.net.specs.Address.{loopback, martian}
@@ -65,7 +65,7 @@ module _ {is : List Interface} {n : ℕ} (o : Opened is n) (a : ℕ) (some : a �
       ⊎_elim (λ w. w)
       (λ w. let h = (holds_is (interface_in is i) a).says e in
       absurd (some (sym h.2 ∙ ap (λ (x : Interface). address_of x h.0) (o.unused i w l) ∙ nothing h.0)))
-      (side i n)
+      (cases_lt i n)
     where
       nothing : (p : ℕ) → address_of no_interface p ≡ 0
       nothing zero = refl

@@ -1,5 +1,6 @@
 -- The thread: running, waiting in recvfrom on one descriptor, or ended
-use Rattle.std.specs.Prelude.{ℕ, List, Bool, true, false, ◌&&◌, not, cond, ltb, eqb}
+use Rattle.std.specs.Prelude.{ℕ, List, Option, None, Some, Bool, true, false, ◌&&◌, not, cond, ltb, eqb}
+use Rattle.net.specs.declared.Descriptor.{Descriptor}
 use Rattle.state.specs.declared.Socket.{Socket}
 use Rattle.state.specs.declared.Thread.{Thread}
 use Rattle.state.specs.declared.Thread.TheVariants.{Running, Waiting, Ended}
@@ -24,3 +25,9 @@ abbrev pub waiting : Thread → Bool
 waiting Running = false
 waiting (Waiting d) = true
 waiting Ended = false
+
+-- the descriptor that it waits on
+abbrev pub awaited_of : Thread → Option Descriptor
+awaited_of Running = None
+awaited_of (Waiting d) = Some d
+awaited_of Ended = None

@@ -1,7 +1,9 @@
 // The opening check (000, 2.3.24), a function for each of its clauses, and whose an address is.
-ghost use Rattle.std.specs.Prelude.{◌≡◌, ◌&&◌};
+// stays: functions and no methods, here and in the modules above: docs and the theorem `one_result` name the public ones' paths.
+ghost use Rattle.std.specs.Prelude.{◌≡◌, ◌<◌, [], ◌∷◌};
+ghost use Rattle.std.specs.List.{list_any};
 ghost use Rattle.state.specs.Places.{no_interface};
-ghost use Rattle.state.specs.Interfaces.{id_known, addressed, member, in_one_net, distinct_within, acceptable, usable, interface_ok, blank, fits, holds, lacks, pair_apart, apart_if, opening_ok, own_of, ours_of, own, ours, holder_id};
+ghost use Rattle.state.specs.Interfaces.{addressed, member, in_one_net, distinct_within, acceptable, usable, interface_ok, holds, lacks, pair_apart, place_ok, opening_ok, own, ours, holder_id};
 
 use crate::Interface;
 use net::InterfaceId;
@@ -12,91 +14,62 @@ use net::InterfaceId;
 pub fn no_interface() -> Interface
     ensures { result ≡ no_interface }
 {
-    Interface {
-        mask: 0,
-        first: 0,
-        second: 0,
-        third: 0,
-        fourth: 0,
-        id: InterfaceId(0),
-    }
+    Interface::default()
 }
 
-fn id_known(x: Interface) -> bool
-    ensures { result ≡ id_known x }
+// The four places for an address.
+fn addresses(x: Interface) -> [u32; 4]
+    ensures { result ≡ (x.first ∷ x.second ∷ x.third ∷ x.fourth ∷ []) }
 {
-    x.id.0 != 0
+    [x.first, x.second, x.third, x.fourth]
 }
 
+// The first is there, and none stands behind a gap.
+#[tactic(auto, unfolding(crate::specs::Interfaces::addressed, laws::specs::Below::all_below))]
 fn is_addressed(x: Interface) -> bool
     ensures { result ≡ addressed x }
 {
-    (x.first != 0)
-        & (((x.first != 0) | (x.second == 0))
-            & ((x.second != 0) | (x.third == 0))
-            & ((x.third != 0) | (x.fourth == 0)))
+    x.first != 0 && (x.second != 0 || x.third == 0) && (x.third != 0 || x.fourth == 0)
 }
 
 fn is_member(x: Interface, a: u32) -> bool
     ensures { result ≡ member x a }
 {
-    (a == 0) | net::is_agreed(a, x.first, x.mask)
+    a == 0 || net::is_agreed(a, x.first, x.mask)
 }
 
 fn in_one_net(x: Interface) -> bool
     ensures { result ≡ in_one_net x }
 {
-    is_member(x, x.first) & is_member(x, x.second) & is_member(x, x.third) & is_member(x, x.fourth)
+    addresses(x).iter().all(|a| is_member(x, *a))
 }
 
 // No address stands in two places of one interface.
 fn is_distinct(x: Interface) -> bool
     ensures { result ≡ distinct_within x }
 {
-    ((x.second == 0) | (x.second != x.first))
-        & (((x.third == 0) | (x.third != x.first)) & ((x.third == 0) | (x.third != x.second)))
-        & (((x.fourth == 0) | (x.fourth != x.first))
-            & ((x.fourth == 0) | (x.fourth != x.second))
-            & ((x.fourth == 0) | (x.fourth != x.third)))
+    let at = addresses(x);
+    at.iter()
+        .enumerate()
+        .all(|(p, a)| *a == 0 || !at[..p].contains(a))
 }
 
 fn is_acceptable(a: u32) -> bool
     ensures { result ≡ acceptable a }
 {
-    (a == 0) | !net::is_stray(a)
+    a == 0 || !net::is_stray(a)
 }
 
 fn is_usable(x: Interface) -> bool
     ensures { result ≡ usable x }
 {
-    is_acceptable(x.first)
-        & is_acceptable(x.second)
-        & is_acceptable(x.third)
-        & is_acceptable(x.fourth)
+    addresses(x).iter().all(|a| is_acceptable(*a))
 }
 
 fn is_interface(x: Interface) -> bool
     ensures { result ≡ interface_ok x }
 {
-    id_known(x) & is_addressed(x) & in_one_net(x) & is_distinct(x) & is_usable(x)
-}
-
-fn is_blank(x: Interface) -> bool
-    ensures { result ≡ blank x }
-{
-    (x.mask == 0)
-        & (x.first == 0)
-        & (x.second == 0)
-        & (x.third == 0)
-        & (x.fourth == 0)
-        & (x.id.0 == 0)
-}
-
-// A place that is in use has an interface, any other nothing.
-fn place_fits(x: Interface, used: bool) -> bool
-    ensures { result ≡ fits used x }
-{
-    if used { is_interface(x) } else { is_blank(x) }
+    x.id != InterfaceId(0) && is_addressed(x) && in_one_net(x) && is_distinct(x) && is_usable(x)
 }
 
 // ---- two interfaces
@@ -104,108 +77,78 @@ fn place_fits(x: Interface, used: bool) -> bool
 pub fn has(x: Interface, a: u32) -> bool
     ensures { result ≡ holds x a }
 {
-    (x.first == a) | (x.second == a) | (x.third == a) | (x.fourth == a)
+    addresses(x).contains(&a)
 }
 
 fn is_lacking(x: Interface, a: u32) -> bool
     ensures { result ≡ lacks x a }
 {
-    (a == 0) | !has(x, a)
+    a == 0 || !has(x, a)
 }
 
 // Other ids, and no address in common.
+#[tactic(auto, unfolding(crate::specs::Interfaces::pair_apart))]
 fn are_apart(x: Interface, y: Interface) -> bool
     ensures { result ≡ pair_apart x y }
 {
-    (x.id.0 != y.id.0)
-        & (is_lacking(x, y.first)
-            & is_lacking(x, y.second)
-            & is_lacking(x, y.third)
-            & is_lacking(x, y.fourth))
-}
-
-// The two, if the second is in use.
-fn pair_fits(x: Interface, y: Interface, used: bool) -> bool
-    ensures { result ≡ apart_if used x y }
-{
-    if used { are_apart(x, y) } else { true }
+    x.id != y.id && addresses(y).iter().all(|a| is_lacking(x, *a))
 }
 
 // ---- all of them: each place, and each with those before it
 
-fn third_fits(w: Interface, x: Interface, y: Interface, used: bool) -> bool
-    ensures { result ≡ (apart_if used w y && apart_if used x y && fits used y) }
+// The place i of the array, of which n are in use: an interface apart from those before it, or nothing.
+#[tactic(auto, using(crate::proofs::Lists::used_place, crate::proofs::Lists::unused_place))]
+fn is_place(interfaces: &[Interface; 4], n: usize, i: usize) -> bool
+    requires { i < 4 }
+    ensures { result ≡ place_ok interfaces.now n i }
 {
-    pair_fits(w, y, used) & pair_fits(x, y, used) & place_fits(y, used)
-}
-
-fn fourth_fits(w: Interface, x: Interface, y: Interface, z: Interface, used: bool) -> bool
-    ensures { result ≡ (apart_if used w z && apart_if used x z && apart_if used y z && fits used z) }
-{
-    pair_fits(w, z, used) & pair_fits(x, z, used) & pair_fits(y, z, used) & place_fits(z, used)
+    let x = interfaces[i];
+    if i < n {
+        is_interface(x) && interfaces[..i].iter().all(|w| are_apart(*w, x))
+    } else {
+        x == Interface::default()
+    }
 }
 
 // The opening check: n interfaces in an array of 4.
-pub fn are_accepted(interfaces: [Interface; 4], n: usize) -> bool
-    ensures { result ≡ opening_ok interfaces n }
+#[tactic(auto, unfolding(crate::specs::Interfaces::opening_ok))]
+pub fn are_accepted(interfaces: &[Interface; 4], n: usize) -> bool
+    ensures { result ≡ opening_ok interfaces.now n }
 {
-    let w = interfaces[0];
-    let x = interfaces[1];
-    let y = interfaces[2];
-    let z = interfaces[3];
-    (n <= 4)
-        & (place_fits(w, 0 < n)
-            & (pair_fits(w, x, 1 < n) & place_fits(x, 1 < n))
-            & third_fits(w, x, y, 2 < n)
-            & fourth_fits(w, x, y, z, 3 < n))
+    n <= 4 && (0..4).all(|i| is_place(interfaces, n, i))
 }
 
 // ---- whose an address is
 
-// An address of one of the four.
-fn is_of(w: Interface, x: Interface, y: Interface, z: Interface, a: u32) -> bool
-    ensures { result ≡ own_of w x y z a }
+// Some interface has the address; where a place is absent it has 0.
+fn is_held(interfaces: &[Interface; 4], a: u32) -> bool
+    ensures { result ≡ list_any (λ x. holds x a) interfaces.now }
 {
-    (a != 0) & (has(w, a) | has(x, a) | has(y, a) | has(z, a))
-}
-
-// All of 127/8 is ours too.
-pub fn is_ours_of(w: Interface, x: Interface, y: Interface, z: Interface, a: u32) -> bool
-    ensures { result ≡ ours_of w x y z a }
-{
-    net::is_loopback(a) | is_of(w, x, y, z, a)
+    interfaces.iter().any(|x| has(*x, a))
 }
 
 // An address of one of the interfaces.
-pub fn is_own(interfaces: [Interface; 4], a: u32) -> bool
-    ensures { result ≡ own interfaces a }
+#[tactic(auto, using(crate::proofs::Lists::any_four), unfolding(crate::specs::Interfaces::own))]
+pub fn is_own(interfaces: &[Interface; 4], a: u32) -> bool
+    ensures { result ≡ own interfaces.now a }
 {
-    is_of(
-        interfaces[0],
-        interfaces[1],
-        interfaces[2],
-        interfaces[3],
-        a,
-    )
+    a != 0 && is_held(interfaces, a)
 }
 
-pub fn is_ours(interfaces: [Interface; 4], a: u32) -> bool
-    ensures { result ≡ ours interfaces a }
+// All of 127/8 is ours too.
+pub fn is_ours(interfaces: &[Interface; 4], a: u32) -> bool
+    ensures { result ≡ ours interfaces.now a }
 {
-    net::is_loopback(a) | is_own(interfaces, a)
+    net::is_loopback(a) || is_own(interfaces, a)
 }
 
 // The id of the first interface that has the address, one of our own; 0 where none has.
-pub fn holder(interfaces: [Interface; 4], a: u32) -> InterfaceId
-    ensures { result ≡ holder_id interfaces a }
+// stays: 0 for none, as document 01 has it for what is absent, and the definition `holder_id`.
+pub fn holder(interfaces: &[Interface; 4], a: u32) -> InterfaceId
+    ensures { result ≡ holder_id interfaces.now a }
 {
-    let mut i = 0;
-    while i < 4 {
-        let x = interfaces[i];
-        if has(x, a) {
-            return x.id;
-        }
-        i += 1;
-    }
-    InterfaceId(0)
+    interfaces
+        .iter()
+        .find(|x| has(**x, a))
+        .map_or(InterfaceId(0), |x| x.id)
 }

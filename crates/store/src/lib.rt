@@ -5,52 +5,24 @@ ghost use Rattle.std.specs.Prelude.{◌≡◌, ◌+◌, ◌*◌, ◌≤◌, ◌<
 ghost use Rattle.laws.specs.Places.{part, splice};
 ghost use Rattle.store.specs.Store.{zeros, slot_written, slot_zeroed, slots_popped};
 
-// ---- the three loops
-
-// Copies all of src into s from index at.
-fn put(s: &mut [u8], at: usize, src: &[u8])
-    requires { at + length src.now ≤ length s.old }
-    ensures { s.new ≡ splice s.old at src.now }
-{
-    let mut j = 0;
-    while j < src.len() {
-        s[at + j] = src[j];
-        j += 1;
-    }
-}
-
 // Zeroes n bytes from index at.
 pub fn clear(s: &mut [u8], at: usize, n: usize)
     requires { at + n ≤ length s.old }
     ensures { s.new ≡ splice s.old at (zeros n) }
 {
-    let mut j = 0;
-    while j < n {
-        s[at + j] = 0;
-        j += 1;
-    }
-}
-
-// Copies the n bytes from index from down to index to. The two may overlap.
-fn shift(s: &mut [u8], to: usize, from: usize, n: usize)
-    requires { (to ≤ from) × (from + n ≤ length s.old) }
-    ensures { s.new ≡ splice s.old to (part s.old from n) }
-{
-    let mut j = 0;
-    while j < n {
-        s[to + j] = s[from + j];
-        j += 1;
-    }
+    s[at..at + n].fill(0);
 }
 
 // ---- slots
 
+// stays: 512 bytes are a clause here, below and in the crates above: of a lent payload a row has tested it, of a stored one the
+// record's check.
 // Writes the payload, and zeros behind it, into the slot at byte at.
 pub fn slot_write(store: &mut [u8], at: usize, payload: &[u8])
     requires { (length payload.now ≤ 512) × (at + 512 ≤ length store.old) }
     ensures { store.new ≡ slot_written store.old at payload.now }
 {
-    put(store, at, payload);
+    store[at..at + payload.len()].copy_from_slice(payload);
     clear(store, at + payload.len(), 512 - payload.len());
 }
 
@@ -59,7 +31,7 @@ pub fn slot_copy(store: &mut [u8], to: usize, from: usize, len: usize)
     requires { (len ≤ 512) × (to + 512 ≤ from) × (from + 512 ≤ length store.old) }
     ensures { store.new ≡ slot_written store.old to (part store.old from len) }
 {
-    shift(store, to, from, len);
+    store.copy_within(from..from + len, to);
     clear(store, to + len, 512 - len);
 }
 
@@ -76,9 +48,8 @@ pub fn slots_pop(store: &mut [u8], base: usize, count: usize)
     requires { (1 ≤ count) × (count ≤ 16) × (base + count * 512 ≤ length store.old) }
     ensures { store.new ≡ slots_popped store.old base count }
 {
-    let rest = (count - 1) * 512;
-    shift(store, base, base + 512, rest);
-    clear(store, base + rest, 512);
+    store.copy_within(base + 512..base + count * 512, base);
+    clear(store, base + (count - 1) * 512, 512);
 }
 
 // Copies the first len bytes of the slot at byte at into the buffer.
@@ -86,5 +57,5 @@ pub fn slot_read(store: &[u8], at: usize, buffer: &mut [u8], len: usize)
     requires { (len ≤ 512) × (len ≤ length buffer.old) × (at + 512 ≤ length store.now) }
     ensures { buffer.new ≡ splice buffer.old 0 (part store.now at len) }
 {
-    put(buffer, 0, &store[at..at + len]);
+    buffer[..len].copy_from_slice(&store[at..at + len]);
 }

@@ -7,7 +7,8 @@ use Prim.Native.Nat.{ℕ, ◌<◌}
 use native.Mathlib.Omega.{arith}
 use lib.Dec.{eqb, ltb}
 use borrow.Author.Tests.{eqb-true, eqb-false, ltb-true}
-use Rattle.laws.proofs.Tests.{two, and_left, and_right}
+use Rattle.std.proofs.lemmas.Bool.{cases_Bool}
+use Rattle.laws.proofs.Tests.{and_left, and_right}
 use Rattle.state.specs.declared.Thread.{Thread}
 use Rattle.state.specs.declared.Thread.TheVariants.{Running, Waiting, Ended}
 use Rattle.host.specs.declared.Host.{Host}
@@ -54,8 +55,8 @@ same n d k =
     ⊎_elim
     (λ (f : eqb n 0 ≡ true). same_at n 0 d 0 (eqb-true n 0 f) z (record { number = refl; awaited = refl }))
     (λ (f : eqb n 0 ≡ false). same_at n 2 d 0 (ended_two n l (eqb-false n 0 f) (eqb-false n 1 e)) z (record { number = refl; awaited = refl }))
-    (two (eqb n 0)))
-    (two (eqb n 1))
+    (cases_Bool (eqb n 0)))
+    (cases_Bool (eqb n 1))
 
 pub stays : (r : Record) → thread_known r.thread r.awaited ≡ true → record_of (host_of r) ≡ r
 stays r k =

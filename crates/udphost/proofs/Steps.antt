@@ -5,7 +5,7 @@ use mathlib.Core.List.{List}
 use mathlib.Core.Logic.{◌⊎◌, inl, inr, ⊎_elim}
 use Prim.Native.Nat.{ℕ}
 use lib.Dec.{eqb}
-use Rattle.laws.proofs.Tests.{cond_cases}
+use Rattle.std.proofs.lemmas.Bool.{cond_both}
 use Rattle.host.specs.Answers.{Outcome}
 use Rattle.history.specs.Steps.{World, Step, after, socket, bind, connect, disconnect, getsockname, getpeername, geterr, getopt, setopt, sendto, recvfrom, resume, interrupt, poll, close, exit, datagram, notice, outstep}
 use Rattle.history.specs.Runs.{next}
@@ -34,18 +34,18 @@ module _ (k : ℕ) (w : World) (q : Request) (p b : List ℕ) where
   asks : Either (asked_of k w q)
   unfolding asked_of
   asks =
-      cond_cases (eqb k 1) _ _ Either (λ e. inl (record { step = socket; leaves = refl; answers = refl })) (λ e.
-      cond_cases (eqb k 2) _ _ Either (λ e. inl (record { step = bind q.descriptor.0 q.address q.port; leaves = refl; answers = refl })) (λ e.
-      cond_cases (eqb k 3) _ _ Either (λ e. inl (record { step = connect q.descriptor.0 q.address q.port; leaves = refl; answers = refl })) (λ e.
-      cond_cases (eqb k 4) _ _ Either (λ e. inl (record { step = disconnect q.descriptor.0; leaves = refl; answers = refl })) (λ e.
-      cond_cases (eqb k 8) _ _ Either (λ e. inl (record { step = setopt q.descriptor.0 q.option q.on; leaves = refl; answers = refl })) (λ e.
-      cond_cases (eqb k 10) _ _ Either (λ e. inl (record { step = notice q.src q.dst q.flow; leaves = refl; answers = refl })) (λ e.
-      cond_cases (eqb k 13) _ _ Either (λ e. inl (record { step = getsockname q.descriptor.0; leaves = refl; answers = refl })) (λ e.
-      cond_cases (eqb k 14) _ _ Either (λ e. inl (record { step = getpeername q.descriptor.0; leaves = refl; answers = refl })) (λ e.
-      cond_cases (eqb k 15) _ _ Either (λ e. inl (record { step = geterr q.descriptor.0; leaves = refl; answers = refl })) (λ e.
-      cond_cases (eqb k 16) _ _ Either (λ e. inl (record { step = getopt q.descriptor.0 q.option; leaves = refl; answers = refl })) (λ e.
-      cond_cases (eqb k 18) _ _ Either (λ e. inl (record { step = interrupt; leaves = refl; answers = refl })) (λ e.
-      cond_cases (eqb k 19) _ _ Either (λ e. inl (record { step = poll q.readers q.writers; leaves = refl; answers = refl })) (λ e. inr (record { leaves = refl })))))))))))))
+      cond_both (eqb k 1) _ _ Either (λ e. inl (record { step = socket; leaves = refl; answers = refl })) (λ e.
+      cond_both (eqb k 2) _ _ Either (λ e. inl (record { step = bind q.descriptor.0 q.address q.port; leaves = refl; answers = refl })) (λ e.
+      cond_both (eqb k 3) _ _ Either (λ e. inl (record { step = connect q.descriptor.0 q.address q.port; leaves = refl; answers = refl })) (λ e.
+      cond_both (eqb k 4) _ _ Either (λ e. inl (record { step = disconnect q.descriptor.0; leaves = refl; answers = refl })) (λ e.
+      cond_both (eqb k 8) _ _ Either (λ e. inl (record { step = setopt q.descriptor.0 q.option q.on; leaves = refl; answers = refl })) (λ e.
+      cond_both (eqb k 10) _ _ Either (λ e. inl (record { step = notice q.src q.dst q.flow; leaves = refl; answers = refl })) (λ e.
+      cond_both (eqb k 13) _ _ Either (λ e. inl (record { step = getsockname q.descriptor.0; leaves = refl; answers = refl })) (λ e.
+      cond_both (eqb k 14) _ _ Either (λ e. inl (record { step = getpeername q.descriptor.0; leaves = refl; answers = refl })) (λ e.
+      cond_both (eqb k 15) _ _ Either (λ e. inl (record { step = geterr q.descriptor.0; leaves = refl; answers = refl })) (λ e.
+      cond_both (eqb k 16) _ _ Either (λ e. inl (record { step = getopt q.descriptor.0 q.option; leaves = refl; answers = refl })) (λ e.
+      cond_both (eqb k 18) _ _ Either (λ e. inl (record { step = interrupt; leaves = refl; answers = refl })) (λ e.
+      cond_both (eqb k 19) _ _ Either (λ e. inl (record { step = poll q.readers q.writers; leaves = refl; answers = refl })) (λ e. inr (record { leaves = refl })))))))))))))
 
   -- what is not lent to a step stays, which neither host nor store tell
   keeps : {o : Outcome} → Either o → Either (record { host = o.host; answer = o.answer; bytes = o.bytes; lent = b })
@@ -54,13 +54,13 @@ module _ (k : ℕ) (w : World) (q : Request) (p b : List ℕ) where
   pub one_step : Either (making_of k w q p b)
   unfolding making_of
   one_step =
-      cond_cases (eqb k 5) _ _ Either (λ e. inl (record { step = sendto q.descriptor.0 q.address q.port p; leaves = refl; answers = refl })) (λ e.
-      cond_cases (eqb k 6) _ _ Either (λ e. inl (record { step = recvfrom q.descriptor.0 q.on b; leaves = refl; answers = refl })) (λ e.
-      cond_cases (eqb k 7) _ _ Either (λ e. inl (record { step = close q.descriptor.0; leaves = refl; answers = refl })) (λ e.
-      cond_cases (eqb k 9) _ _ Either (λ e. inl (record { step = datagram q.flow p; leaves = refl; answers = refl })) (λ e.
-      cond_cases (eqb k 11) _ _ Either (λ e. inl (record { step = outstep b; leaves = refl; answers = refl })) (λ e.
-      cond_cases (eqb k 12) _ _ Either (λ e. inl (record { step = exit; leaves = refl; answers = refl })) (λ e.
-      cond_cases (eqb k 17) _ _ Either (λ e. inl (record { step = resume b; leaves = refl; answers = refl })) (λ e. keeps asks)))))))
+      cond_both (eqb k 5) _ _ Either (λ e. inl (record { step = sendto q.descriptor.0 q.address q.port p; leaves = refl; answers = refl })) (λ e.
+      cond_both (eqb k 6) _ _ Either (λ e. inl (record { step = recvfrom q.descriptor.0 q.on b; leaves = refl; answers = refl })) (λ e.
+      cond_both (eqb k 7) _ _ Either (λ e. inl (record { step = close q.descriptor.0; leaves = refl; answers = refl })) (λ e.
+      cond_both (eqb k 9) _ _ Either (λ e. inl (record { step = datagram q.flow p; leaves = refl; answers = refl })) (λ e.
+      cond_both (eqb k 11) _ _ Either (λ e. inl (record { step = outstep b; leaves = refl; answers = refl })) (λ e.
+      cond_both (eqb k 12) _ _ Either (λ e. inl (record { step = exit; leaves = refl; answers = refl })) (λ e.
+      cond_both (eqb k 17) _ _ Either (λ e. inl (record { step = resume b; leaves = refl; answers = refl })) (λ e. keeps asks)))))))
 
   -- so a good world stays good under any request
   pub stays_good : Good w → Good (world (making_of k w q p b))

@@ -1,52 +1,25 @@
 // Which host call a request is.
-ghost use Rattle.std.specs.Prelude.{◌≡◌, []};
+ghost use Rattle.std.specs.Prelude.{◌≡◌};
 ghost use Rattle.host.specs.Answers.{outcome};
-ghost use Rattle.udphost.specs.Requests.{none_of, asked, making};
+ghost use Rattle.udphost.specs.Requests.{none_of, making};
 
 use crate::Request;
+use answers::Refusal;
 use host::{Host, Stepped};
 
 // No step: 1 and 2 as of every step, then 6.
 fn none(h: Host, room: usize) -> Stepped
     ensures { result ≡ none_of h room }
 {
-    let n = answers::tables::row(
-        !h.well_formed(),
-        1,
-        answers::tables::row(room != 40960, 2, 6),
-    );
+    let refusal = h.ready(room).err().unwrap_or(Refusal::BadArgument);
     Stepped {
         host: h,
-        answer: answers::numbered(n),
-    }
-}
-
-// The steps that leave every lent byte as it is.
-fn ask(h: Host, store: &[u8], q: Request) -> Stepped
-    ensures { outcome result store.now [] ≡ asked h store.now q }
-{
-    let kind = q.kind;
-    let d = q.descriptor;
-    let port = q.port;
-    let flow = q.flow;
-    match kind {
-        1 => h.socket(store),
-        2 => h.bind(store, d, q.address, port),
-        3 => h.connect(store, d, q.address, port),
-        4 => h.disconnect(store, d),
-        8 => h.setopt(store, d, q.option, q.on),
-        10 => h.notice(store, q.src, q.dst, flow),
-        13 => h.getsockname(store, d),
-        14 => h.getpeername(store, d),
-        15 => h.geterr(store, d),
-        16 => h.getopt(store, d, q.option),
-        18 => h.interrupt(store),
-        19 => h.poll(store, q.readers, q.writers),
-        _ => none(h, store.len()),
+        answer: answers::refused(refusal),
     }
 }
 
 // The step that the kind chooses: 1 to 12 as in a script, then the others.
+#[tactic(auto, unfolding(crate::specs::Requests::asked_of, crate::specs::Requests::making_of, history::specs::Steps::after))]
 pub(crate) fn make(
     h: Host,
     store: &mut [u8],
@@ -56,18 +29,28 @@ pub(crate) fn make(
 ) -> Stepped
     ensures { outcome result store.new buffer.new ≡ making h store.old q payload.now buffer.old }
 {
-    let kind = q.kind;
     let d = q.descriptor;
-    let port = q.port;
-    let flow = q.flow;
-    match kind {
-        5 => h.sendto(store, d, q.address, port, payload),
+    // stays: the kind is C's byte; an enum of the steps would be a second list of these, with each request taken apart twice.
+    match q.kind {
+        1 => h.socket(store),
+        2 => h.bind(store, d, q.address, q.port),
+        3 => h.connect(store, d, q.address, q.port),
+        4 => h.disconnect(store, d),
+        5 => h.sendto(store, d, q.address, q.port, payload),
         6 => h.recvfrom(store, d, q.on, buffer),
         7 => h.close(store, d),
-        9 => h.datagram(store, flow, payload),
+        8 => h.setopt(store, d, q.option, q.on),
+        9 => h.datagram(store, q.flow, payload),
+        10 => h.notice(store, q.src, q.dst, q.flow),
         11 => h.out_step(store, buffer),
         12 => h.exit(store),
+        13 => h.getsockname(store, d),
+        14 => h.getpeername(store, d),
+        15 => h.geterr(store, d),
+        16 => h.getopt(store, d, q.option),
         17 => h.resume(store, buffer),
-        _ => ask(h, store, q),
+        18 => h.interrupt(store),
+        19 => h.poll(store, q.readers, q.writers),
+        _ => none(h, store.len()),
     }
 }

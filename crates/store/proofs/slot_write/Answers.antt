@@ -1,7 +1,8 @@
 use Rattle.std.proofs.Common.{rules}
-use Rattle.store.proofs.slot_write.Goals as goal
 use mathlib.Core.Path.{refl}
-use Rattle.laws.proofs.Splice.{splice_then}
+use native.Mathlib.Omega.{arith}
+use Rattle.laws.proofs.Splice.{copied_is, splice_then}
+use Rattle.store.proofs.slot_write.Goals as goal
 
 pub returns : goal.returns
-returns c = splice_then _ _ _ _ (search rules) c.put.ensures refl c.clear.ensures
+returns c = splice_then _ _ _ _ (search rules) (copied_is _ _ c.copy_from_slice.ensures.after (omega arith)) refl c.clear.ensures

@@ -1,14 +1,14 @@
-use Rattle.std.proofs.Common.{rules}
-use Rattle.matching.specs.Ports.{port_free}
+use Rattle.std.proofs.Common.{rules, ◌∙◌}
+use Rattle.std.proofs.lemmas.Iterator.{YieldsList-from_slice}
+use Rattle.std.proofs.lemmas.Iterator.Search.{all_from_yields_List}
+use borrow.Author.Tests.{tests}
+use Rattle.laws.proofs.Below.{all_is}
+use Rattle.state.specs.Places.{no_socket}
+use Rattle.matching.specs.Ports.{lacks_port, port_free}
 use Rattle.matching.proofs.ports.is_port_free.Goals as goal
-use Rattle.laws.proofs.Below.{all_start, all_turn, all_done}
-
-pub loop-j-init : goal.loop-j-init
-loop-j-init c = (search rules, all_start _ _)
-
-pub loop-j-preserved : goal.loop-j-preserved
-loop-j-preserved c = (search rules, all_turn c.loop-j.invariant.1 c.lacks_port-ok.ensures)
 
 pub returns : goal.returns
 unfolding port_free
-returns c = all_done c.loop-j.invariant.1 16 (search rules) (search rules)
+returns c =
+    all_from_yields_List (λ s. lacks_port s c.args.p.0) _ _ _ c.all.ensures.ran (YieldsList-from_slice c.args.sockets.now cc) (λ x b q k. search (rules, tests))
+    ∙ all_is (λ s. lacks_port s c.args.p.0) no_socket c.args.sockets.now 16 c.told-sockets

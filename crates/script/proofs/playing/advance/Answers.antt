@@ -1,9 +1,14 @@
 use Rattle.script.proofs.playing.advance.Goals as goal
 use native.Mathlib.Omega.{arith}
-use Rattle.script.proofs.Turns.{filled_part, turned_line, turned_bad}
+use Prim.Native.Nat.{◌+◌}
+use Rattle.script.proofs.Turns.{payload_is, turned_line, turned_bad}
 
-pub returns-then-m : goal.returns-then-m
-returns-then-m c = turned_line c.args.p c.args.input.now c.args.store.now c.args.buffer.now c.fields_at-f.ensures (filled_part _ _ _ _ (omega (arith, c.requires.long, c.struct_known-3-1.given)) c.fill.ensures) c.make-m.ensures c.if-m.true c.put_line.ensures
+pub returns-in_default : goal.returns-in_default
+returns-in_default c =
+    turned_bad c.args.n c.args.host c.args.input.now c.args.memory.now.store c.args.memory.now.buffer c.fields_at-f.ensures
+    (payload_is (c.args.n + 1) c.fields_at-f.result.len _ (omega arith) c.fill.ensures.after) (rw c.in_default.is at c.make.ensures) c.put_closing.ensures
 
 pub returns : goal.returns
-returns c = turned_bad c.args.p c.args.input.now c.args.store.now c.args.buffer.now c.fields_at-f.ensures (filled_part _ _ _ _ (omega (arith, c.requires.long, c.struct_known-3-1.given)) c.fill.ensures) c.make-m.ensures c.if-m.false c.put_closing.ensures
+returns c =
+    turned_line c.args.n c.args.host c.args.input.now c.args.memory.now.store c.args.memory.now.buffer c.fields_at-f.ensures
+    (payload_is (c.args.n + 1) c.fields_at-f.result.len _ (omega arith) c.fill.ensures.after) (rw c.in-Some.is at c.make.ensures) c.put_line.ensures

@@ -1,13 +1,22 @@
-use Rattle.std.proofs.Common.{rules}
 use Rattle.script.proofs.playing.play.Goals as goal
-use mathlib.Core.Path.{refl}
-use Rattle.script.proofs.Plays.{going_on, not_ended, kept_start, kept_turn, kept_done}
+use native.Mathlib.Omega.{arith}
+use Rattle.script.specs.Playing.{starting}
+use Rattle.script.proofs.Plays.{kept_start, kept_turn, kept_end, text_small}
 
-pub loop-p-init : goal.loop-p-init
-loop-p-init c = (kept_start _ c.args.start _ _ _ _ c.requires.first c.requires.start c.requires.going, refl, refl, refl)
+pub loop-n-init : goal.loop-n-init
+loop-n-init c = kept_start c.args.input.now c.args.start c.args.memory.now c.args.page.now
 
-pub loop-p-preserved : goal.loop-p-preserved
-loop-p-preserved c = let k = c.loop-p.invariant in (kept_turn _ _ _ _ c.requires.room k.0 (going_on c.loop-p.p.n c.args.m c.loop-p.p.ended c.loop-p-test.true) (not_ended c.loop-p.p.n c.args.m c.loop-p.p.ended c.loop-p-test.true) c.advance-p.ensures, search rules, search rules, search rules)
+pub advance-requires : goal.advance-requires
+advance-requires c =
+    let b = text_small c.args.input.now (starting c.args.start c.args.memory.now.store c.args.memory.now.buffer) c.loop-n.n in
+    record { few = omega arith; step = omega arith; room = omega arith }
 
-pub returns : goal.returns
-returns c = kept_done _ _ _ _ c.loop-p.invariant.0 c.loop-p-test.false
+pub returns-in_err-host : goal.returns-in_err-host
+returns-in_err-host c =
+    let b = text_small c.args.input.now (starting c.args.start c.args.memory.now.store c.args.memory.now.buffer) c.loop-n.n in
+    rw c.from_residual.ensures (kept_end _ _ _ c.loop-n.n c.args.m c.loop-n-test.true (omega arith) c.loop-n.invariant (rw c.in_err-host.was at c.advance.ensures))
+
+pub loop-n-preserved : goal.loop-n-preserved
+loop-n-preserved c =
+    let b = text_small c.args.input.now (starting c.args.start c.args.memory.now.store c.args.memory.now.buffer) c.loop-n.n in
+    kept_turn _ _ _ c.loop-n.n (omega arith) c.loop-n.invariant (rw c.in_ok-host.was at c.advance.ensures)
