@@ -50,6 +50,13 @@ pub fn connect_rows(address: u32, source: u32) -> Result<(), Refusal>
     refuse_if(source == 0, Refusal::NoRoute)
 }
 
+// Option 1 is bsdcompat, 2 is reuse.
+pub fn is_unknown(option: u8) -> bool
+    ensures { result ≡ unknown_option option }
+{
+    SocketOption::try_from(option).is_err()
+}
+
 // setopt: 6 for an unknown option, 6 for reuse once there is a local port; else the option.
 pub fn set_rows(s: Socket, option: u8) -> Result<SocketOption, Refusal>
     ensures refusal { refused_with result ≡ first ((unknown_option option, 6) ∷ (eqb option 2 && not (eqb s.lport.0 0), 6) ∷ []) }

@@ -79,9 +79,8 @@ fn bound(port: u16) -> Socket {
     }
 }
 
-// Document 01's sockets 0 to 3, which share port 7000; then others.
-fn sockets() -> [Socket; 16] {
-    let mut xs = [Socket::default(); 16];
+// Document 01's sockets 0 to 3, which share port 7000; then others; from 8 on as opening left them.
+fn sockets(mut xs: [Socket; 16]) -> [Socket; 16] {
     xs[0] = bound(7000);
     xs[1] = Socket {
         laddr: OURS,
@@ -122,7 +121,7 @@ fn opened(store: &mut [u8]) -> Host {
         ..Interface::default()
     };
     let s = Host::opening(interfaces, 1, store);
-    let sockets = sockets();
+    let sockets = sockets(s.host.sockets);
     Host { sockets, ..s.host }
 }
 

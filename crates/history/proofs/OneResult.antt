@@ -41,6 +41,7 @@ use Rattle.store.proofs.slot_read.Reads as store_slot_read
 use Rattle.state.proofs.interfaces.no_interface.Reads as state_interfaces_no_interface
 use Rattle.state.proofs.interfaces.has.Reads as state_interfaces_has
 use Rattle.state.proofs.interfaces.are_accepted.Reads as state_interfaces_are_accepted
+use Rattle.state.proofs.interfaces.is_ours_of.Reads as state_interfaces_is_ours_of
 use Rattle.state.proofs.interfaces.is_own.Reads as state_interfaces_is_own
 use Rattle.state.proofs.interfaces.is_ours.Reads as state_interfaces_is_ours
 use Rattle.state.proofs.interfaces.holder.Reads as state_interfaces_holder
@@ -69,6 +70,7 @@ use Rattle.answers.proofs.tables.refuse_if.Reads as answers_tables_refuse_if
 use Rattle.answers.proofs.tables.opening_rows.Reads as answers_tables_opening_rows
 use Rattle.answers.proofs.tables.bind_rows.Reads as answers_tables_bind_rows
 use Rattle.answers.proofs.tables.connect_rows.Reads as answers_tables_connect_rows
+use Rattle.answers.proofs.tables.is_unknown.Reads as answers_tables_is_unknown
 use Rattle.answers.proofs.tables.set_rows.Reads as answers_tables_set_rows
 use Rattle.answers.proofs.tables.send_rows.Reads as answers_tables_send_rows
 use Rattle.matching.proofs.ports.is_in_use.Reads as matching_ports_is_in_use
@@ -149,6 +151,7 @@ pub record OneResult : Type 0 where
   pub state_interfaces_no_interface_once : Fixed {W = Interface} state_interfaces_no_interface.Post (λ k a r e. r)
   pub state_interfaces_has_once : Fixed {W = Bool} state_interfaces_has.Post (λ k a r e. r)
   pub state_interfaces_are_accepted_once : Fixed {W = Bool} state_interfaces_are_accepted.Post (λ k a r e. r)
+  pub state_interfaces_is_ours_of_once : Fixed {W = Bool} state_interfaces_is_ours_of.Post (λ k a r e. r)
   pub state_interfaces_is_own_once : Fixed {W = Bool} state_interfaces_is_own.Post (λ k a r e. r)
   pub state_interfaces_is_ours_once : Fixed {W = Bool} state_interfaces_is_ours.Post (λ k a r e. r)
   pub state_interfaces_holder_once : Fixed {W = InterfaceId} state_interfaces_holder.Post (λ k a r e. r)
@@ -178,6 +181,7 @@ pub record OneResult : Type 0 where
   pub answers_tables_opening_rows_once : Fixed {W = Result (Unit {0}) Refusal} answers_tables_opening_rows.Post (λ k a r e. r)
   pub answers_tables_bind_rows_once : Fixed {W = Result (Unit {0}) Refusal} answers_tables_bind_rows.Post (λ k a r e. r)
   pub answers_tables_connect_rows_once : Fixed {W = Result (Unit {0}) Refusal} answers_tables_connect_rows.Post (λ k a r e. r)
+  pub answers_tables_is_unknown_once : Fixed {W = Bool} answers_tables_is_unknown.Post (λ k a r e. r)
   pub answers_tables_set_rows_once : Fixed {W = Result SocketOption Refusal} answers_tables_set_rows.Post (λ k a r e. r)
   pub answers_tables_send_rows_once : Fixed {W = Result (Unit {0}) Refusal} answers_tables_send_rows.Post (λ k a r e. r)
   -- matching
@@ -259,6 +263,7 @@ one_result =
       state_interfaces_no_interface_once = record { fixed = λ k a r r' e e' p q. p ∙ sym q };
       state_interfaces_has_once = record { fixed = λ k a r r' e e' p q. p ∙ sym q };
       state_interfaces_are_accepted_once = record { fixed = λ k a r r' e e' p q. p ∙ sym q };
+      state_interfaces_is_ours_of_once = record { fixed = λ k a r r' e e' p q. p ∙ sym q };
       state_interfaces_is_own_once = record { fixed = λ k a r r' e e' p q. p ∙ sym q };
       state_interfaces_is_ours_once = record { fixed = λ k a r r' e e' p q. p ∙ sym q };
       state_interfaces_holder_once = record { fixed = λ k a r r' e e' p q. p ∙ sym q };
@@ -287,6 +292,7 @@ one_result =
       answers_tables_opening_rows_once = record { fixed = λ k a r r' e e' p q. refused_once r r' (p ∙ sym q) };
       answers_tables_bind_rows_once = record { fixed = λ k a r r' e e' p q. refused_once r r' (p ∙ sym q) };
       answers_tables_connect_rows_once = record { fixed = λ k a r r' e e' p q. refused_once r r' (p ∙ sym q) };
+      answers_tables_is_unknown_once = record { fixed = λ k a r r' e e' p q. p ∙ sym q };
       answers_tables_set_rows_once = record { fixed = λ k a r r' e e' p q. named_once r r' a.1.0 (p.0 ∙ sym q.0) p.1 q.1 };
       answers_tables_send_rows_once = record { fixed = λ k a r r' e e' p q. refused_once r r' (p ∙ sym q) };
       matching_ports_is_in_use_once = record { fixed = λ k a r r' e e' p q. p ∙ sym q };

@@ -5,6 +5,7 @@ use mathlib.Core.Bool.{Bool}
 use mathlib.Core.List.{List}
 use Prim.Native.Nat.{ℕ}
 use Rattle.std.specs.Prelude.{Option, Some, None, is_none, IfSome}
+use Rattle.net.specs.declared.Flow.{Flow}
 use Rattle.host.specs.declared.Host.{Host}
 use Rattle.history.proofs.OneResult.{Fixed}
 use Rattle.script.specs.declared.Fields.{Fields}
@@ -15,6 +16,7 @@ use Rattle.script.specs.Playing.{State, At}
 use Rattle.script.specs.Steps.{Making, made, made_of}
 use Rattle.script.specs.Whole.{Ran, ran}
 use Rattle.script.proofs.fields_at.Reads as fields_at
+use Rattle.script.proofs.FlowFromFields.from.Reads as flow_from_fields
 use Rattle.script.proofs.make.Reads as make
 use Rattle.script.proofs.lines.Page.put.Reads as put
 use Rattle.script.proofs.lines.Page.put_line.Reads as put_line
@@ -42,6 +44,7 @@ stand r m p = record { host = r; bytes = m.store; lent = m.buffer; page = shown 
 
 pub record OneResult : Type 0 where
   pub fields_at_once : Fixed {W = Fields} fields_at.Post (λ k a r e. r)
+  pub flow_once : Fixed {W = Flow} flow_from_fields.Post (λ k a r e. r)
   pub make_once : Fixed {W = Making} make.Post (λ k a r e. made (made_of a.0 r) e.1.0.now e.1.1.1.1.0.now)
   pub put_once : Fixed {W = Put} put.Post (λ k a r e. shown e.0.now)
   pub put_line_once : Fixed {W = Put} put_line.Post (λ k a r e. shown e.0.now)
@@ -77,6 +80,7 @@ pub one_result : OneResult
 one_result =
     record {
       fields_at_once = record { fixed = λ k a r r' e e' p q. p ∙ sym q };
+      flow_once = record { fixed = λ k a r r' e e' p q. p ∙ sym q };
       make_once = record { fixed = λ k a r r' e e' p q. p ∙ sym q };
       put_once = record { fixed = λ k a r r' e e' p q. same_page p q };
       put_line_once = record { fixed = λ k a r r' e e' p q. same_page p q };

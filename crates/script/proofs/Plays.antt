@@ -8,7 +8,7 @@ use Prim.Native.Nat.{ℕ, zero, suc, ◌+◌, ◌*◌, ◌≤◌, ◌<◌}
 use native.Mathlib.Numerals.{add-one}
 use native.Mathlib.Omega.{arith}
 use Rattle.std.proofs.lemmas.Bool.{cases_lt, cond_both}
-use Rattle.std.specs.Prelude.{Option, Some, None}
+use Rattle.std.specs.Prelude.{Option, Some, None, unwrap_or, IfSome}
 use lib.Dec.{ltb}
 use lib.ListN.{length, length-append}
 use borrow.Author.Tests.{ltb-true, not-true}
@@ -64,9 +64,14 @@ not_ended n m e t = not-true e (and_right (ltb n m) _ t)
 
 -- ---- the invariant
 
+-- where a host is given, it is the turn's
+if_given : (r : Option Host) (h : Host) {k : Host} → unwrap_or r h ≡ k → IfSome r (λ x. x ≡ k)
+if_given (Some x) h e = e
+if_given None h e = tt
+
 module _ (input : List ℕ) (q₀ : State) (a : Page) where
   -- one turn more
-  pub kept_turn : (n : ℕ) {h : Host} {r : Option Host} {m m' : Memory} {p p' : Page} → Room a (length (played input q₀ n).text) → At (played input q₀ n) (Some h) m a p → Turned (turn input n h m.store m.buffer) r m' p p' → At (played input q₀ (n + 1)) r m' a p'
+  pub kept_turn : (n : ℕ) {h : Host} {r : Option Host} {m m' : Memory} {p p' : Page} → Room a (length (played input q₀ n).text) → At (played input q₀ n) (Some h) m a p → Turned h (turn input n h m.store m.buffer) r m' p p' → At (played input q₀ (n + 1)) r m' a p'
   unfolding played
   kept_turn n {h} {r} {m} {m'} {p} {p'} room k w =
       let q = played input q₀ n in
@@ -78,7 +83,7 @@ module _ (input : List ℕ) (q₀ : State) (a : Page) where
       ∙ ap (λ (x : Bool). cond x q (further q (turn input n q.host q.bytes q.lent))) live
       ∙ ap (further q) (sym eq) in
       let z : At (further q (turn input n h m.store m.buffer)) r m' a p' =
-      record { host = w.host; store = w.store; buffer = w.buffer; ended = w.ended; text = put_then k.text w.text room } in
+      record { host = if_given r h w.host; store = w.store; buffer = w.buffer; ended = w.ended; text = put_then k.text w.text room } in
       rw step z
 
   -- once ended, nothing more comes
@@ -94,7 +99,7 @@ module _ (input : List ℕ) (q₀ : State) (a : Page) where
       (cases_lt k n)
 
   -- a bad kind: what follows plays nothing more
-  pub kept_end : (n k : ℕ) {h : Host} {m m' : Memory} {p p' : Page} → n < k → Room a (length (played input q₀ n).text) → At (played input q₀ n) (Some h) m a p → Turned (turn input n h m.store m.buffer) None m' p p' → At (played input q₀ k) None m' a p'
+  pub kept_end : (n k : ℕ) {h : Host} {m m' : Memory} {p p' : Page} → n < k → Room a (length (played input q₀ n).text) → At (played input q₀ n) (Some h) m a p → Turned h (turn input n h m.store m.buffer) None m' p p' → At (played input q₀ k) None m' a p'
   kept_end n k less room i w =
       let z = kept_turn n room i w in
       rw (ended_stays (n + 1) (sym z.ended) k (omega arith)) z

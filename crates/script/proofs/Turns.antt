@@ -40,7 +40,7 @@ module _ (n : ℕ) (h : Host) (input s b : List ℕ) {f : Fields} {x : List ℕ}
       ∙ ap (λ (g : Fields). turn_of n g.kind (making h s g (payload (n + 1) g.len) b)) ef
 
   -- known or not: what it says was printed
-  pub turned_line : {r : Stepped} {m : Memory} {p q : Page} → made (made_of h (Some r)) m.store m.buffer ≡ making h s f x b → Printed p (line (n + 1) f.kind r.answer) q → Turned (turn input n h s b) (Some r.host) m p q
+  pub turned_line : {r : Stepped} {m : Memory} {p q : Page} → made (made_of h (Some r)) m.store m.buffer ≡ making h s f x b → Printed p (line (n + 1) f.kind r.answer) q → Turned h (turn input n h s b) (Some r.host) m p q
   turned_line em w =
       let e = turn_is em in
       record {
@@ -51,11 +51,11 @@ module _ (n : ℕ) (h : Host) (input s b : List ℕ) {f : Fields} {x : List ℕ}
         text = rw (← ap (λ (y : Turn). y.said) e) w;
       }
 
-  pub turned_bad : {m : Memory} {p q : Page} → made (made_of h None) m.store m.buffer ≡ making h s f x b → Printed p (closing (n + 1) bad_word) q → Turned (turn input n h s b) None m p q
+  pub turned_bad : {m : Memory} {p q : Page} → made (made_of h None) m.store m.buffer ≡ making h s f x b → Printed p (closing (n + 1) bad_word) q → Turned h (turn input n h s b) None m p q
   turned_bad em w =
       let e = turn_is em in
       record {
-        host = tt;
+        host = ap (λ (y : Turn). y.host) e;
         store = ap (λ (y : Turn). y.bytes) e;
         buffer = ap (λ (y : Turn). y.lent) e;
         ended = ap (λ (y : Turn). y.ended) e;

@@ -1,5 +1,5 @@
 -- A script, step by step
-use Rattle.std.specs.Prelude.{◌≡◌, List, [], ◌∷◌, ◌++◌, Bool, false, not, cond, ℕ, zero, suc, ◌+◌, ◌*◌, ◌%◌, ◌≤◌, ◌<◌, length, Option, is_none, IfSome}
+use Rattle.std.specs.Prelude.{◌≡◌, List, [], ◌∷◌, ◌++◌, Bool, false, not, cond, ℕ, zero, suc, ◌+◌, ◌*◌, ◌%◌, ◌≤◌, ◌<◌, length, Option, is_none, IfSome, unwrap_or}
 use Rattle.laws.specs.Places.{copies}
 use Rattle.host.specs.declared.Host.{Host}
 use Rattle.script.specs.declared.lines.Page.{Page}
@@ -31,9 +31,10 @@ turn_of n kind m = record { host = m.host; bytes = m.bytes; lent = m.lent; said 
 abbrev pub turn : List ℕ → ℕ → Host → List ℕ → List ℕ → Turn
 turn input n h s b = turn_of n (fields_at input (13 + 16 * n)).kind (making h s (fields_at input (13 + 16 * n)) (payload (n + 1) (fields_at input (13 + 16 * n)).len) b)
 
--- r is the host one step further, none where that ends the script; q is the page p with what was printed
-pub record Turned (t : Turn) (r : Option Host) (m : Memory) (p q : Page) : Type 0 where
-  pub host : IfSome r (λ h. h ≡ t.host)
+-- r is the host one step after h, or none where that ends the script, which leaves h as it was; q is the page p with
+-- what was printed
+pub record Turned (h : Host) (t : Turn) (r : Option Host) (m : Memory) (p q : Page) : Type 0 where
+  pub host : unwrap_or r h ≡ t.host
   pub store : m.store ≡ t.bytes
   pub buffer : m.buffer ≡ t.lent
   pub ended : is_none r ≡ t.ended

@@ -9,8 +9,8 @@ use answers::SocketOption;
 use host::{Host, Stepped};
 use net::{Descriptor, Flow, Port};
 
-mod lines;
-mod playing;
+pub mod lines;
+pub mod playing;
 pub mod whole;
 
 // The bytes of a script's header, and of each step behind it.
@@ -20,7 +20,7 @@ pub(crate) const STEP: usize = 16;
 
 // A step's 16 bytes.
 #[derive(Clone, Copy)]
-pub(crate) struct Fields {
+pub struct Fields {
     pub a: u32,
     pub b: u32,
     pub p: Port,

@@ -24,7 +24,7 @@ pub(crate) struct Memory {
 // Step n + 1; no host where its kind is bad, which ends the script.
 fn advance(host: Host, n: u32, input: &[u8], page: &mut Page, memory: &mut Memory) -> Option<Host>
     requires { Playable n input.now page.old }
-    ensures { Turned (turn input.now n host memory.old.store memory.old.buffer) result memory.new page.old page.new }
+    ensures { Turned host (turn input.now n host memory.old.store memory.old.buffer) result memory.new page.old page.new }
 {
     let f = crate::fields_at(input, HEADER + STEP * n as usize);
     let Memory {

@@ -3,7 +3,7 @@
 ghost use Rattle.std.specs.Prelude.{◌≡◌, ◌<◌, [], ◌∷◌};
 ghost use Rattle.std.specs.List.{list_any};
 ghost use Rattle.state.specs.Places.{no_interface};
-ghost use Rattle.state.specs.Interfaces.{addressed, member, in_one_net, distinct_within, acceptable, usable, interface_ok, holds, lacks, pair_apart, place_ok, opening_ok, own, ours, holder_id};
+ghost use Rattle.state.specs.Interfaces.{addressed, member, in_one_net, distinct_within, acceptable, usable, interface_ok, holds, lacks, pair_apart, place_ok, opening_ok, ours_of, own, ours, holder_id};
 
 use crate::Interface;
 use net::InterfaceId;
@@ -140,6 +140,14 @@ pub fn is_ours(interfaces: &[Interface; 4], a: u32) -> bool
     ensures { result ≡ ours interfaces.now a }
 {
     net::is_loopback(a) || is_own(interfaces, a)
+}
+
+// The same, of the four one by one.
+#[tactic(auto, unfolding(crate::specs::Interfaces::own))]
+pub fn is_ours_of(w: Interface, x: Interface, y: Interface, z: Interface, a: u32) -> bool
+    ensures { result ≡ ours_of w x y z a }
+{
+    is_ours(&[w, x, y, z], a)
 }
 
 // The id of the first interface that has the address, one of our own; 0 where none has.
