@@ -1,13 +1,14 @@
 -- One step of a script, from what it calls.
 -- Assumes nothing.
 use mathlib.Core.Path.{◌≡◌, refl, ap, ◌∙◌}
+use mathlib.Core.Bool.{not, cond}
 use mathlib.Core.List.{List}
 use Prim.Native.Nat.{ℕ, ◌+◌, ◌-◌, ◌*◌, ◌%◌, ◌≤◌}
 use native.Mathlib.Omega.{arith}
 use lib.ListN.{length, replicate, take, drop}
 use Rattle.laws.specs.Places.{part, splice, copies}
 use Rattle.laws.proofs.Splice.{length_copies, part_back}
-use Rattle.std.specs.Prelude.{Some, None}
+use Rattle.std.specs.Prelude.{Option, Some, None, is_none, unwrap_or}
 use Rattle.host.specs.declared.Host.{Host}
 use Rattle.host.specs.declared.Stepped.{Stepped}
 use Rattle.script.specs.declared.Fields.{Fields}
@@ -39,25 +40,21 @@ module _ (n : ℕ) (h : Host) (input s b : List ℕ) {f : Fields} {x : List ℕ}
       ap (turn_of n f.kind) (em ∙ ap (λ (y : List ℕ). making h s f y b) ex)
       ∙ ap (λ (g : Fields). turn_of n g.kind (making h s g (payload (n + 1) g.len) b)) ef
 
-  -- known or not: what it says was printed
-  pub turned_line : {r : Stepped} {m : Memory} {p q : Page} → made (made_of h (Some r)) m.store m.buffer ≡ making h s f x b → Printed p (line (n + 1) f.kind r.answer) q → Turned h (turn input n h s b) (Some r.host) m p q
-  turned_line em w =
+  -- known or not: what it says was printed; o is the host that is given back
+  turned : (r : Made) (o : Option Host) {m : Memory} {p q : Page} → unwrap_or o h ≡ r.host → is_none o ≡ not r.known → made r m.store m.buffer ≡ making h s f x b
+      → Printed p (cond r.known (line (n + 1) f.kind r.answer) (closing (n + 1) bad_word)) q → Turned h (turn input n h s b) o m p q
+  turned r o eh ek em w =
       let e = turn_is em in
       record {
-        host = ap (λ (y : Turn). y.host) e;
+        host = eh ∙ ap (λ (y : Turn). y.host) e;
         store = ap (λ (y : Turn). y.bytes) e;
         buffer = ap (λ (y : Turn). y.lent) e;
-        ended = ap (λ (y : Turn). y.ended) e;
+        ended = ek ∙ ap (λ (y : Turn). y.ended) e;
         text = rw (← ap (λ (y : Turn). y.said) e) w;
       }
 
+  pub turned_line : {r : Stepped} {m : Memory} {p q : Page} → made (made_of h (Some r)) m.store m.buffer ≡ making h s f x b → Printed p (line (n + 1) f.kind r.answer) q → Turned h (turn input n h s b) (Some r.host) m p q
+  turned_line {r} em w = turned (made_of h (Some r)) (Some r.host) refl refl em w
+
   pub turned_bad : {m : Memory} {p q : Page} → made (made_of h None) m.store m.buffer ≡ making h s f x b → Printed p (closing (n + 1) bad_word) q → Turned h (turn input n h s b) None m p q
-  turned_bad em w =
-      let e = turn_is em in
-      record {
-        host = ap (λ (y : Turn). y.host) e;
-        store = ap (λ (y : Turn). y.bytes) e;
-        buffer = ap (λ (y : Turn). y.lent) e;
-        ended = ap (λ (y : Turn). y.ended) e;
-        text = rw (← ap (λ (y : Turn). y.said) e) w;
-      }
+  turned_bad em w = turned (made_of h None) None refl refl em w
